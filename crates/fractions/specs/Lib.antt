@@ -1,0 +1,4 @@
+pub mod Order
+pub mod Fraction
+pub mod Divisor
+pub mod Point
