@@ -1,0 +1,2 @@
+-- From another crate: `use Rattle.orientation.proofs.FILE.{..}`.
+pub mod Signs
