@@ -1,0 +1,98 @@
+//! What a chart is and what is answered about it, in one form for the Rust, the model and the library.
+
+use std::cmp::Ordering;
+
+/// kind, x1, y1, x2, y2
+pub type Piece = [i32; 5];
+pub type Chart = Vec<Piece>;
+pub type Pair = (usize, usize);
+
+pub const LIMIT: i32 = 32_767;
+pub const MOST_PIECES: usize = 64;
+
+/// (x / d, y / d), d positive, with no common divisor.
+#[derive(Clone, Copy, PartialEq, Eq, Debug)]
+pub struct Point {
+  pub x: i128,
+  pub y: i128,
+  pub d: i128,
+}
+
+impl Point {
+  pub fn new(x: i128, y: i128, d: i128) -> Point {
+    let g = gcd(gcd(x.abs(), y.abs()), d.abs()) * d.signum();
+    Point {
+      x: x / g,
+      y: y / g,
+      d: d / g,
+    }
+  }
+
+  pub fn whole(x: i128, y: i128) -> Point {
+    Point { x, y, d: 1 }
+  }
+}
+
+impl Ord for Point {
+  fn cmp(&self, other: &Point) -> Ordering {
+    let by_x = (self.x * other.d).cmp(&(other.x * self.d));
+    by_x.then((self.y * other.d).cmp(&(other.y * self.d)))
+  }
+}
+
+impl PartialOrd for Point {
+  fn partial_cmp(&self, other: &Point) -> Option<Ordering> {
+    Some(self.cmp(other))
+  }
+}
+
+fn gcd(a: i128, b: i128) -> i128 {
+  if b == 0 { a } else { gcd(b, a % b) }
+}
+
+#[derive(Clone, Copy, PartialEq, Eq, Debug)]
+pub struct End {
+  pub x: i64,
+  pub y: i64,
+  pub included: bool,
+}
+
+#[derive(Clone, Copy, PartialEq, Eq, Debug)]
+pub enum Meeting {
+  Nothing,
+  Crossing,
+  Overlap(End, End),
+}
+
+/// What a half-line towards a piece says: past which side of the line the piece leans at an end
+/// that lies on it, or that it crosses.
+#[derive(Clone, Copy, PartialEq, Eq, Debug)]
+pub enum Side {
+  CounterClockWise,
+  ClockWise,
+  CoLinear,
+}
+
+/// The sweep after a step.
+#[derive(Clone, PartialEq, Eq, Debug)]
+pub struct Step {
+  pub visited: Point,
+  pub active: Vec<usize>,
+  pub waiting: Vec<(Pair, Point)>,
+  pub listed: usize,
+  pub examined: Vec<Pair>,
+}
+
+#[derive(Clone, PartialEq, Eq, Debug)]
+pub struct Run {
+  pub list: Vec<Pair>,
+  pub steps: Vec<Step>,
+}
+
+pub fn is_upright(piece: &Piece) -> bool {
+  piece[1] == piece[3]
+}
+
+pub fn has_length(piece: &Piece) -> bool {
+  piece[1..3] != piece[3..5]
+}

@@ -1,0 +1,56 @@
+//! One chart with the Rust's answers at hand, and how two answers are held against each other.
+
+use std::fmt::Debug;
+
+use crate::answers::{Chart, Pair};
+use crate::original::Original;
+use crate::{file, half_line, naive, order, place, segment, sweep};
+
+pub struct Case {
+  pub chart: Chart,
+  pub original: Original,
+}
+
+impl Case {
+  /// Every two pieces, in both orders.
+  pub fn pairs(&self) -> impl Iterator<Item = Pair> + use<> {
+    let n = self.chart.len();
+    (0..n).flat_map(move |a| (0..n).filter(move |b| *b != a).map(move |b| (a, b)))
+  }
+
+  /// Small enough to ask the Rust's exact numbers about everything.
+  pub fn is_small(&self) -> bool {
+    self.chart.len() <= 12
+  }
+}
+
+/// Compares every answer about one chart; the first difference is told.
+pub fn check(chart: &Chart) -> Result<(), String> {
+  let case = Case {
+    chart: chart.clone(),
+    original: Original::new(chart),
+  };
+  segment::compare(&case)?;
+  place::compare(&case)?;
+  half_line::compare(&case)?;
+  order::compare(&case)?;
+  naive::compare(&case)?;
+  sweep::compare(&case)?;
+  file::compare(&case)
+}
+
+/// Ok where `theirs`, the answer of `whose`, is the Rust's.
+pub fn same<T: PartialEq + Debug>(
+  call: impl Fn() -> String,
+  rust: T,
+  whose: &str,
+  theirs: T,
+) -> Result<(), String> {
+  if rust == theirs {
+    return Ok(());
+  }
+  Err(format!(
+    "{}\n  Rust  {rust:?}\n  {whose} {theirs:?}",
+    call()
+  ))
+}

@@ -1,0 +1,169 @@
+//! The charts that are compared: every tiny one, random ones of several tempers from a seed, and
+//! those that are kept because something once depended on them.
+
+use crate::answers::{Chart, LIMIT, MOST_PIECES, Piece, has_length};
+
+/// splitmix64: the same numbers everywhere from one seed.
+pub struct Random(u64);
+
+impl Random {
+  /// The numbers of the `index`-th chart of a seed.
+  pub fn new(seed: u64, index: usize) -> Random {
+    let mut random = Random(seed);
+    random.0 = random.next() ^ index as u64;
+    random
+  }
+
+  fn next(&mut self) -> u64 {
+    self.0 = self.0.wrapping_add(0x9e37_79b9_7f4a_7c15);
+    let mut z = self.0;
+    z = (z ^ (z >> 30)).wrapping_mul(0xbf58_476d_1ce4_e5b9);
+    z = (z ^ (z >> 27)).wrapping_mul(0x94d0_49bb_1331_11eb);
+    z ^ (z >> 31)
+  }
+
+  /// From `low` to `high`, both included.
+  pub fn between(&mut self, low: i32, high: i32) -> i32 {
+    low + (self.next() % (high - low + 1) as u64) as i32
+  }
+
+  pub fn pick<T: Copy>(&mut self, from: &[T]) -> T {
+    from[self.next() as usize % from.len()]
+  }
+
+  fn kind(&mut self) -> i32 {
+    self.pick(&[3, 3, 3, 0, 1, 2])
+  }
+}
+
+/// A piece of one kind with ends in the 3 by 3 grid has 9 * 9 * 4 numbers, 9 * 8 * 4 of them pieces.
+const TINY_PIECES: usize = 288;
+pub const TINY_CHARTS: usize = 1 + TINY_PIECES + TINY_PIECES * TINY_PIECES;
+
+/// Every chart of up to two pieces with coordinates 0 to 2.
+pub fn tiny(index: usize) -> Chart {
+  if index == 0 {
+    return vec![];
+  }
+  let index = index - 1;
+  if index < TINY_PIECES {
+    return vec![tiny_piece(index)];
+  }
+  let index = index - TINY_PIECES;
+  vec![
+    tiny_piece(index / TINY_PIECES),
+    tiny_piece(index % TINY_PIECES),
+  ]
+}
+
+fn tiny_piece(index: usize) -> Piece {
+  let (kind, ends) = (index % 4, index / 4);
+  let (first, skipped) = (ends / 8, ends % 8);
+  let second = skipped + usize::from(skipped >= first);
+  [kind, first / 3, first % 3, second / 3, second % 3].map(|v| v as i32)
+}
+
+/// Coordinates -3 to 3, up to 12 pieces.
+pub fn degenerate(random: &mut Random) -> Chart {
+  let n = random.between(1, 12) as usize;
+  match random.between(0, 4) {
+    0 => many(n, || {
+      piece(random, |r| [r.between(-3, 3), r.between(-3, 3)])
+    }),
+    1 => shared_ends(random, n),
+    2 => on_few_lines(random, n),
+    3 => through_one_point(random, n),
+    _ => with_uprights(random, n),
+  }
+}
+
+/// Every end is one of a few points.
+fn shared_ends(random: &mut Random, n: usize) -> Chart {
+  let points: Vec<[i32; 2]> = (0..5).map(|i| [i - 2, random.between(-3, 3)]).collect();
+  many(n, || piece(random, |r| r.pick(&points)))
+}
+
+/// Level, upright and slanting pieces of a few lines: overlaps and shared ends.
+fn on_few_lines(random: &mut Random, n: usize) -> Chart {
+  many(n, || {
+    let (from, to) = (random.between(-3, 3), random.between(-3, 3));
+    let across = random.between(-1, 1);
+    match random.between(0, 3) {
+      0 => [random.kind(), from, across, to, across],
+      1 => [random.kind(), across, from, across, to],
+      2 => [random.kind(), from, from, to, to],
+      _ => [random.kind(), from, -from, to, -to],
+    }
+  })
+}
+
+fn through_one_point(random: &mut Random, n: usize) -> Chart {
+  many(n, || {
+    let (x, y) = (random.between(-3, 3), random.between(-3, 3));
+    let far = random.between(0, 1);
+    [random.kind(), x, y, -x * far, -y * far]
+  })
+}
+
+fn with_uprights(random: &mut Random, n: usize) -> Chart {
+  many(n, || {
+    let [kind, x1, y1, x2, y2] = piece(random, |r| [r.between(-3, 3), r.between(-3, 3)]);
+    [kind, x1, y1, random.pick(&[x1, x1, x2]), y2]
+  })
+}
+
+/// Any coordinates, any count up to the limit; ends at most `reach` apart.
+pub fn scattered(random: &mut Random, n: usize, reach: i32) -> Chart {
+  many(n, || {
+    let (x, y) = (random.between(-LIMIT, LIMIT), random.between(-LIMIT, LIMIT));
+    let mut near = |v: i32| random.between((v - reach).max(-LIMIT), (v + reach).min(LIMIT));
+    let (x2, y2) = (near(x), near(y));
+    [random.kind(), x, y, x2, y2]
+  })
+}
+
+pub fn any_size(random: &mut Random) -> Chart {
+  let n = random.between(1, MOST_PIECES as i32) as usize;
+  let reach = random.pick(&[20, 3_000, 12_000]);
+  scattered(random, n, reach)
+}
+
+pub fn full_size(random: &mut Random) -> Chart {
+  let reach = random.pick(&[20, 1_000, 3_000, 6_000]);
+  scattered(random, MOST_PIECES, reach)
+}
+
+/// Coordinates at and near the limits and zero, up to 8 pieces.
+pub fn extreme(random: &mut Random) -> Chart {
+  const NEAR: [i32; 9] = [
+    0,
+    1,
+    2,
+    11,
+    16_384,
+    LIMIT - 27,
+    LIMIT - 11,
+    LIMIT - 1,
+    LIMIT,
+  ];
+  let n = random.between(2, 8) as usize;
+  let value = |random: &mut Random| random.pick(&NEAR) * random.pick(&[-1, 1]);
+  many(n, || piece(random, |r| [value(r), value(r)]))
+}
+
+fn piece(random: &mut Random, mut end: impl FnMut(&mut Random) -> [i32; 2]) -> Piece {
+  let ([x1, y1], [x2, y2]) = (end(random), end(random));
+  [random.kind(), x1, y1, x2, y2]
+}
+
+/// n pieces that have length.
+fn many(n: usize, mut next: impl FnMut() -> Piece) -> Chart {
+  let mut chart = Chart::new();
+  while chart.len() < n {
+    let piece = next();
+    if has_length(&piece) {
+      chart.push(piece);
+    }
+  }
+  chart
+}

@@ -1,0 +1,158 @@
+//! Holds the published Rust, this library and a plain model against each other, chart by chart.
+//!
+//!   compare gate               the fixed charts
+//!   compare long SEED COUNT    COUNT random charts of each temper from SEED
+
+mod answers;
+mod case;
+mod charts;
+mod file;
+mod half_line;
+mod kept;
+mod model;
+mod model_sweep;
+mod naive;
+mod order;
+mod original;
+mod place;
+mod segment;
+mod shrink;
+mod sweep;
+
+use std::panic;
+use std::process::ExitCode;
+use std::sync::Mutex;
+use std::sync::atomic::{AtomicUsize, Ordering};
+use std::thread;
+use std::time::Instant;
+
+use answers::Chart;
+use charts::Random;
+
+const GATE_SEED: u64 = 1;
+
+/// Charts of one temper: how many, and the one of each index.
+struct Family {
+  name: &'static str,
+  count: usize,
+  chart: Box<dyn Fn(usize) -> Chart + Sync>,
+}
+
+fn main() -> ExitCode {
+  let words: Vec<String> = std::env::args().skip(1).collect();
+  let words: Vec<&str> = words.iter().map(String::as_str).collect();
+  let families = match words[..] {
+    ["gate"] => gate(),
+    ["long", seed, count] => match (seed.parse(), count.parse()) {
+      (Ok(seed), Ok(count)) => long(seed, count),
+      _ => return usage(),
+    },
+    _ => return usage(),
+  };
+  panic::set_hook(Box::new(|_| {}));
+  for family in families {
+    let start = Instant::now();
+    if let Some(chart) = first_wrong(&family) {
+      tell(&family, chart);
+      return ExitCode::FAILURE;
+    }
+    let seconds = start.elapsed().as_secs_f32();
+    println!(
+      "compare: {} {} charts, {seconds:.1} s",
+      family.count, family.name
+    );
+  }
+  ExitCode::SUCCESS
+}
+
+fn usage() -> ExitCode {
+  eprintln!("usage: compare gate | compare long SEED COUNT");
+  ExitCode::from(2)
+}
+
+fn gate() -> Vec<Family> {
+  vec![
+    kept(),
+    tiny(),
+    random("degenerate", GATE_SEED, 20_000, charts::degenerate),
+    random("extreme", GATE_SEED, 5_000, charts::extreme),
+    random("any-size", GATE_SEED, 500, charts::any_size),
+    random("full-size", GATE_SEED, 1_000, charts::full_size),
+  ]
+}
+
+fn long(seed: u64, count: usize) -> Vec<Family> {
+  vec![
+    random("degenerate", seed, count, charts::degenerate),
+    random("extreme", seed, count, charts::extreme),
+    random("any-size", seed, count, charts::any_size),
+    random("full-size", seed, count, charts::full_size),
+  ]
+}
+
+fn kept() -> Family {
+  let charts = kept::charts();
+  Family {
+    name: "kept",
+    count: charts.len(),
+    chart: Box::new(move |i| charts[i].clone()),
+  }
+}
+
+fn tiny() -> Family {
+  Family {
+    name: "tiny",
+    count: charts::TINY_CHARTS,
+    chart: Box::new(charts::tiny),
+  }
+}
+
+fn random(name: &'static str, seed: u64, count: usize, make: fn(&mut Random) -> Chart) -> Family {
+  Family {
+    name,
+    count,
+    chart: Box::new(move |i| make(&mut Random::new(seed, i))),
+  }
+}
+
+/// A wrong chart of the family, or none. All processors look.
+fn first_wrong(family: &Family) -> Option<Chart> {
+  let next = AtomicUsize::new(0);
+  let wrong = Mutex::new(None);
+  let look = || {
+    loop {
+      let i = next.fetch_add(1, Ordering::Relaxed);
+      if i >= family.count || wrong.lock().unwrap().is_some() {
+        return;
+      }
+      let chart = (family.chart)(i);
+      if fault(&chart).is_some() {
+        *wrong.lock().unwrap() = Some(chart);
+      }
+    }
+  };
+  let workers = thread::available_parallelism().map_or(1, |n| n.get());
+  thread::scope(|scope| {
+    for _ in 0..workers {
+      scope.spawn(look);
+    }
+  });
+  wrong.into_inner().unwrap()
+}
+
+/// What differs on the chart, or none. A panic on either side is a difference.
+fn fault(chart: &Chart) -> Option<String> {
+  match panic::catch_unwind(|| case::check(chart)) {
+    Ok(told) => told.err(),
+    Err(_) => Some("a panic".to_string()),
+  }
+}
+
+fn tell(family: &Family, chart: Chart) {
+  let smallest = shrink::smallest(chart, |c| fault(c).is_some());
+  println!("compare: a {} chart differs; shrunk to", family.name);
+  for [kind, x1, y1, x2, y2] in &smallest {
+    println!("  ({x1},{y1})-({x2},{y2}) kind {kind}");
+  }
+  println!("in {}", fault(&smallest).unwrap_or_default());
+}

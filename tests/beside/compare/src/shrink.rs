@@ -1,0 +1,47 @@
+//! Makes a chart on which an answer differs as small as it can while one still does.
+
+use crate::answers::{Chart, has_length};
+
+/// A chart that is wrong, and of which no part or simpler form that is tried here is.
+pub fn smallest(mut chart: Chart, is_wrong: impl Fn(&Chart) -> bool) -> Chart {
+  loop {
+    let found = simpler(&chart).find(&is_wrong);
+    let Some(simpler) = found else {
+      return chart;
+    };
+    chart = simpler;
+  }
+}
+
+fn simpler(chart: &Chart) -> impl Iterator<Item = Chart> {
+  without_a_piece(chart).chain(with_a_simpler_number(chart))
+}
+
+fn without_a_piece(chart: &Chart) -> impl Iterator<Item = Chart> {
+  (0..chart.len()).map(|i| {
+    let mut fewer = chart.clone();
+    fewer.remove(i);
+    fewer
+  })
+}
+
+fn with_a_simpler_number(chart: &Chart) -> impl Iterator<Item = Chart> {
+  let places = (0..chart.len()).flat_map(|i| (0..5).map(move |k| (i, k)));
+  places.flat_map(move |(i, k)| {
+    let v = chart[i][k];
+    let smaller = match k {
+      0 => vec![3; usize::from(v != 3)],
+      _ => [0, v / 2, v - v.signum()]
+        .into_iter()
+        .filter(|s| s.abs() < v.abs())
+        .collect(),
+    };
+    let with = move |s| {
+      let mut simpler = chart.clone();
+      simpler[i][k] = s;
+      simpler
+    };
+    let charts = smaller.into_iter().map(with);
+    charts.filter(move |c| has_length(&c[i]))
+  })
+}

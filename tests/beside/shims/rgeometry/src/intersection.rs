@@ -1,0 +1,4 @@
+pub trait Intersects<Other = Self> {
+  type Result;
+  fn intersect(self, other: Other) -> Option<Self::Result>;
+}
