@@ -20,7 +20,23 @@ reversed CounterClockWise = ClockWise
 reversed ClockWise = CounterClockWise
 reversed CoLinear = CoLinear
 
+abbrev pub isLeft : Orientation → Bool
+isLeft CounterClockWise = true
+isLeft ClockWise = false
+isLeft CoLinear = false
+
+abbrev pub isRight : Orientation → Bool
+isRight CounterClockWise = false
+isRight ClockWise = true
+isRight CoLinear = false
+
 abbrev pub isStraight : Orientation → Bool
 isStraight CounterClockWise = false
 isStraight ClockWise = false
 isStraight CoLinear = true
+
+-- the Rust's o == p
+abbrev pub sameTurn : Orientation → Orientation → Bool
+sameTurn CounterClockWise p = isLeft p
+sameTurn ClockWise p = isRight p
+sameTurn CoLinear p = isStraight p

@@ -1,7 +1,7 @@
 // Which way three points turn: the sign of a determinant that i64 holds for every i16.
 ghost use mathlib.Core.Path.{_≡_};
 ghost use lib.IntN.{_-ℤ_};
-ghost use Rattle.orientation.specs.Turn.{det, turnOf, reversed, isStraight};
+ghost use Rattle.orientation.specs.Turn.{det, turnOf, reversed, isLeft, isRight, isStraight, sameTurn};
 
 // The turn on the way from the first point over the second to the third.
 pub enum Orientation {
@@ -46,6 +46,26 @@ pub fn reverse(o: Orientation) -> Orientation
     }
 }
 
+pub fn is_ccw(o: Orientation) -> bool
+    ensures { λ r. ⌜ r ≡ isLeft o ⌝ }
+{
+    match o {
+        Orientation::CounterClockWise => true,
+        Orientation::ClockWise => false,
+        Orientation::CoLinear => false,
+    }
+}
+
+pub fn is_cw(o: Orientation) -> bool
+    ensures { λ r. ⌜ r ≡ isRight o ⌝ }
+{
+    match o {
+        Orientation::CounterClockWise => false,
+        Orientation::ClockWise => true,
+        Orientation::CoLinear => false,
+    }
+}
+
 pub fn is_colinear(o: Orientation) -> bool
     ensures { λ r. ⌜ r ≡ isStraight o ⌝ }
 {
@@ -53,5 +73,15 @@ pub fn is_colinear(o: Orientation) -> bool
         Orientation::CounterClockWise => false,
         Orientation::ClockWise => false,
         Orientation::CoLinear => true,
+    }
+}
+
+pub fn same(o: Orientation, p: Orientation) -> bool
+    ensures { λ r. ⌜ r ≡ sameTurn o p ⌝ }
+{
+    match o {
+        Orientation::CounterClockWise => is_ccw(p),
+        Orientation::ClockWise => is_cw(p),
+        Orientation::CoLinear => is_colinear(p),
     }
 }

@@ -1,0 +1,4 @@
+pub mod Piece
+pub mod Geometry
+pub mod Segment
+pub mod Demand
