@@ -1,63 +1,49 @@
--- The answer `orderOf a b` of a comparison and the order that it tells: `order-less`, `order-equal`, `order-greater` from an order, `less-order` and so on back.
--- `by-order a b P f g h : P (orderOf a b)` goes by the three cases; `order-flip` asks the other way round.
--- `never-below-itself` below is the example. Assumes nothing.
-use mathlib.Core.Path.{_≡_, refl, sym, ap, _∙_, subst}
+-- What an answer `three l e g a b` of a comparison is (`three-less`, `three-equal`, `three-greater`, from an order), and what it tells.
+-- `by-three a b P f s t : P (three l e g a b)` goes by the three cases, each with its order in hand; so a law of answers is one line.
+-- `flipped` below is the example: the same comparison, asked the other way round. Assumes nothing.
+use mathlib.Core.Path.{_≡_, refl, sym, _∙_, subst}
 use mathlib.Core.Bool.{Bool, true, false, cond}
-use Prim.Native.Nat.{ℕ}
-use native.Mathlib.Omega.{arith}
 use lib.Dec.{T}
 use lib.IntN.{ℤ}
 use lib.Signed.{ltZ, _≤ℤ_, _<ℤ_, ltZ-yes, <ℤ-irrefl}
-use Rattle.integers.specs.declared.Ordering.{Ordering}
-use Rattle.integers.specs.declared.Ordering.the-variants.{Less, Equal, Greater}
-use Rattle.integers.specs.Order.{orderOf}
+use Rattle.integers.specs.Order.{three}
 use Rattle.integers.proofs.Order.{Tri, less, same, more, tri, <-asym, ≤-antisym}
 
-cond-yes : (c : Bool) (x y : Ordering) → T c → cond c x y ≡ x
-cond-yes true x y t = refl
-cond-yes false x y t = absurd t
+module _ {A : Type 0} where
+  cond-yes : (c : Bool) (x y : A) → T c → cond c x y ≡ x
+  cond-yes true x y t = refl
+  cond-yes false x y t = absurd t
 
-cond-no : (c : Bool) (x y : Ordering) → ¬ (T c) → cond c x y ≡ y
-cond-no true x y f = absurd (f tt)
-cond-no false x y f = refl
+  cond-no : (c : Bool) (x y : A) → ¬ (T c) → cond c x y ≡ y
+  cond-no true x y f = absurd (f tt)
+  cond-no false x y f = refl
 
-module _ {a b : ℤ} where
-  pub order-less : a <ℤ b → orderOf a b ≡ Less
-  unfolding orderOf
-  order-less h = cond-yes (ltZ a b) _ _ (h .lt)
+module _ {A : Type 0} (l e g : A) {a b : ℤ} where
+  pub three-less : a <ℤ b → three l e g a b ≡ l
+  three-less h = cond-yes (ltZ a b) l (cond (ltZ b a) g e) (h .lt)
 
-  pub order-greater : b <ℤ a → orderOf a b ≡ Greater
-  unfolding orderOf
-  order-greater h = cond-no (ltZ a b) _ _ (λ t. <-asym h (ltZ-yes t)) ∙ cond-yes (ltZ b a) _ _ (h .lt)
+  pub three-greater : b <ℤ a → three l e g a b ≡ g
+  three-greater h = cond-no (ltZ a b) l (cond (ltZ b a) g e) (λ t. <-asym h (ltZ-yes t)) ∙ cond-yes (ltZ b a) g e (h .lt)
 
-order-itself : (a : ℤ) → orderOf a a ≡ Equal
-unfolding orderOf
-order-itself a = let f : ¬ (T (ltZ a a)) = λ t. <ℤ-irrefl {a = a} (ltZ-yes t) in cond-no (ltZ a a) _ _ f ∙ cond-no (ltZ a a) _ _ f
+  pub three-equal : a ≡ b → three l e g a b ≡ e
+  three-equal x =
+      cond-no (ltZ a b) l (cond (ltZ b a) g e) (λ t. <ℤ-irrefl (subst (λ (z : ℤ). z <ℤ b) x (ltZ-yes t)))
+      ∙ cond-no (ltZ b a) g e (λ t. <ℤ-irrefl (subst (λ (z : ℤ). b <ℤ z) x (ltZ-yes t)))
 
-pub order-equal : {a b : ℤ} → a ≡ b → orderOf a b ≡ Equal
-order-equal {a} e = subst (λ (x : ℤ). orderOf a x ≡ Equal) e (order-itself a)
+  -- what the last branch of a comparison knows: neither is below the other
+  pub three-neither : a ≤ℤ b → b ≤ℤ a → three l e g a b ≡ e
+  three-neither h k = three-equal (≤-antisym h k)
 
--- neither is less: what the last branch of a comparison knows
-pub order-neither : {a b : ℤ} → a ≤ℤ b → b ≤ℤ a → orderOf a b ≡ Equal
-order-neither h k = order-equal (≤-antisym h k)
+module _ {A : Type 0} {l e g : A} (a b : ℤ) (P : A → Type 0) where
+  pub by-three : (a <ℤ b → P l) → (a ≡ b → P e) → (b <ℤ a → P g) → P (three l e g a b)
+  by-three f s t = go (tri a b)
+    where
+      go : Tri a b → P (three l e g a b)
+      go (less h) = subst P (sym (three-less l e g h)) (f h)
+      go (same x) = subst P (sym (three-equal l e g x)) (s x)
+      go (more h) = subst P (sym (three-greater l e g h)) (t h)
 
-pub by-order : (a b : ℤ) (P : Ordering → Type 0) → (a <ℤ b → P Less) → (a ≡ b → P Equal) → (b <ℤ a → P Greater) → P (orderOf a b)
-by-order a b P f g h = go (tri a b)
-  where
-    go : Tri a b → P (orderOf a b)
-    go (less l) = subst P (sym (order-less l)) (f l)
-    go (same e) = subst P (sym (order-equal e)) (g e)
-    go (more l) = subst P (sym (order-greater l)) (h l)
-
--- ---- back from the answer
-pub less-order : (a b : ℤ) → orderOf a b ≡ Less → a <ℤ b
-less-order a b = by-order a b (λ (o : Ordering). o ≡ Less → a <ℤ b) (λ l _. l) (λ _ e. absurd (let z : _≡_ {A = ℕ} 0 1 = cc in omega arith)) (λ _ e. absurd (let z : _≡_ {A = ℕ} 0 1 = cc in omega arith))
-
-pub equal-order : (a b : ℤ) → orderOf a b ≡ Equal → a ≡ b
-equal-order a b = by-order a b (λ (o : Ordering). o ≡ Equal → a ≡ b) (λ _ e. absurd (let z : _≡_ {A = ℕ} 0 1 = cc in omega arith)) (λ l _. l) (λ _ e. absurd (let z : _≡_ {A = ℕ} 0 1 = cc in omega arith))
-
-pub greater-order : (a b : ℤ) → orderOf a b ≡ Greater → b <ℤ a
-greater-order a b = by-order a b (λ (o : Ordering). o ≡ Greater → b <ℤ a) (λ _ e. absurd (let z : _≡_ {A = ℕ} 0 1 = cc in omega arith)) (λ _ e. absurd (let z : _≡_ {A = ℕ} 0 1 = cc in omega arith)) (λ l _. l)
-
-never-below-itself : (a : ℤ) → orderOf a a ≡ Less → ⊥
-never-below-itself a e = <ℤ-irrefl (less-order a a e)
+flipped : {A : Type 0} (l e g : A) (a b : ℤ) → three l e g a b ≡ three g e l b a
+flipped {A} l e g a b =
+    by-three a b (λ (x : A). x ≡ three g e l b a)
+    (λ h. sym (three-greater g e l h)) (λ x. sym (three-equal g e l (sym x))) (λ h. sym (three-less g e l h))

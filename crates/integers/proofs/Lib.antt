@@ -1,14 +1,17 @@
 -- Which file to open for which goal. From another crate: `use Rattle.integers.proofs.FILE.{..}`.
---   an equation of polynomials                    Identity     by-ring
---   a linear order or equation                    Linear       ≤-goal, <-goal, ≡-goal, and ≤-fact .. for what is known
---   an order with products                        Order        ≤-cert, <-cert, over signs of Signs
---   which of two is less; chains of orders        Order        tri, ≤-trans, <-trans, ≤-<-trans, ≤-antisym
---   a factor put in or cancelled; zero products   Factors      *-mono-<, *-cancel-<, p/p, zero-product
---   the order of fractions                        Ratios       ratio-<-trans and its kin
---   an answer Less, Equal or Greater              Comparison   order-less, less-order, by-order
---   a size |z| ≤ A                                Sizes        small-of, small-lo, small-hi
---   code: it fits, it is the formula              Machine      m-fits, m-eq, m-bound, m-carry
---   code: what a branch says                      Tests        m-yes, m-no, with the sets `sized` and `ranged`
+--   an equation of polynomials                     Identity    by-ring
+--   a linear order or equation                     Linear      ≤-goal, <-goal, ≡-goal; ≤-fact and so on for what is known
+--   an order with products                         Order       ≤-cert, <-cert, over the signs of Signs
+--   which of two is less; chains of orders         Order       tri, ≤-trans, <-trans, ≤-<-trans, ≤-antisym
+--   a factor put in or cancelled; zero products    Factors     *-mono-<, *-cancel-<, p/p, zero-product
+--   the order of fractions                         Ratios      ratio-<-trans and its kin
+--   one of three answers, by order                 Comparison  three-less, three-neither, by-three
+--   from ℕ to ℤ and back                           Naturals    pos-≤, pos-<, ≤-pos, <-pos, natural
+--   a size, |z| ≤ A                                Sizes       small-of, small-lo, small-hi, small-up
+--   code: it fits, it is the formula, its bound    Machine     m-fits, m-eq, m-bound, m-carry
+--   code: what a branch says                       Tests       m-yes, m-no; the sets `sized` and `ranged`
+--   code: a type's range as two orders             Ranges      range-lo, range-hi, range-of
+--   code: casts between signed and unsigned        Unsigned    m-unsigned, m-under, m-cast
 -- `Ring` and `Polynomial` are what `Identity` stands on.
 pub mod Ring
 pub mod Polynomial
@@ -19,6 +22,9 @@ pub mod Factors
 pub mod Ratios
 pub mod Linear
 pub mod Comparison
+pub mod Naturals
 pub mod Sizes
 pub mod Machine
 pub mod Tests
+pub mod Ranges
+pub mod Unsigned

@@ -89,6 +89,9 @@ abbrev pub m-small : {A : ℕ} {z : ℤ} → Small A z → Mach z
 m-small {A} {z} h = record { plain = z; top = A; good = true; is = λ t. refl; ok = λ t. h .small }
 
 -- of which only the type's range is known: a parameter (`c .fits .x`), a call's result (`c .f .ok`). Below 64 bits that is a bound to compute with
+abbrev pub m-range : {w : Width} {z : ℤ} → SFits w z → Mach z
+m-range {w} {z} h = record { plain = z; top = 2 ^ hbits w; good = true; is = λ t. refl; ok = λ t. natAbs-le z (h .sfits) }
+
 abbrev pub m-kept : {w : Width} {z : ℤ} → SFits w z → Mach (toZ w (ofZ w z))
 m-kept {w} {z} h = record { plain = z; top = 2 ^ hbits w; good = true; is = λ t. toZ-ofZ w z h; ok = λ t. natAbs-le z (h .sfits) }
 

@@ -1,4 +1,4 @@
--- What is said of whole numbers in contracts: `Size` bounds a number's size, `Order` is the answer of a comparison.
+-- What is said of whole numbers in contracts: `Size` bounds a number's size, `Order` answers a comparison.
 -- The laws stand in proofs/, whose Lib.antt says which file to open for which goal.
 pub mod Order
 pub mod Size

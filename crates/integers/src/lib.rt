@@ -1,21 +1,13 @@
 ghost use mathlib.Core.Path.{_≡_};
-ghost use Rattle.integers.specs.Order.{orderOf};
+ghost use lib.IntN.{natAbs};
 
-// Which of two is less.
-pub enum Ordering {
-    Less,
-    Equal,
-    Greater,
-}
-
-pub fn compare(a: i64, b: i64) -> Ordering
-    ensures { λ r. ⌜ r ≡ orderOf a b ⌝ }
+// The size of a number, without its sign: at the least i64 too, whose size no i64 holds.
+pub fn size(z: i64) -> u64
+    ensures { λ r. ⌜ r ≡ natAbs z ⌝ }
 {
-    if a < b {
-        Ordering::Less
-    } else if b < a {
-        Ordering::Greater
+    if z < 0 {
+        (-1 - z) as u64 + 1
     } else {
-        Ordering::Equal
+        z as u64
     }
 }
