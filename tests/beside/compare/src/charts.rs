@@ -151,6 +151,23 @@ pub fn extreme(random: &mut Random) -> Chart {
   many(n, || piece(random, |r| [value(r), value(r)]))
 }
 
+/// Long pieces that all pass close by one point: crossings that differ in far digits.
+pub fn near_ties(random: &mut Random) -> Chart {
+  let n = random.between(2, 8) as usize;
+  let (x, y) = (random.between(-9_000, 9_000), random.between(-9_000, 9_000));
+  many(n, || {
+    let (dx, dy) = (random.between(-9_000, 9_000), random.between(-9_000, 9_000));
+    let (times, off) = (random.between(1, 2), random.between(-1, 1));
+    [
+      random.kind(),
+      x + dx,
+      y + dy,
+      x - times * dx + off,
+      y - times * dy,
+    ]
+  })
+}
+
 fn piece(random: &mut Random, mut end: impl FnMut(&mut Random) -> [i32; 2]) -> Piece {
   let ([x1, y1], [x2, y2]) = (end(random), end(random));
   [random.kind(), x1, y1, x2, y2]

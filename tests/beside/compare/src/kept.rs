@@ -30,5 +30,13 @@ pub fn charts() -> Vec<Chart> {
       [3, -m, -m, m, 32_740],
       [3, m, -m, -m, -m],
     ],
+    // (0,1) and (0,2) cross at one point in binary64; exactly, (0,2) comes first
+    vec![
+      [3, -m, 1_201, 32_766, -9_001],
+      [3, 28_858, 565, 16_353, -10_149],
+      [3, 28_585, -1_945, 14_706, -10_152],
+    ],
+    // no piece
+    vec![],
   ]
 }

@@ -2,6 +2,7 @@
 //!
 //!   compare gate               the fixed charts
 //!   compare long SEED COUNT    COUNT random charts of each temper from SEED
+//!   compare record FOLDER      writes the Rust's answers on a fixed sample
 
 mod answers;
 mod case;
@@ -15,6 +16,7 @@ mod naive;
 mod order;
 mod original;
 mod place;
+mod record;
 mod segment;
 mod shrink;
 mod sweep;
@@ -47,6 +49,7 @@ fn main() -> ExitCode {
       (Ok(seed), Ok(count)) => long(seed, count),
       _ => return usage(),
     },
+    ["record", folder] => return recorded(record::write(folder.as_ref())),
     _ => return usage(),
   };
   panic::set_hook(Box::new(|_| {}));
@@ -66,8 +69,18 @@ fn main() -> ExitCode {
 }
 
 fn usage() -> ExitCode {
-  eprintln!("usage: compare gate | compare long SEED COUNT");
+  eprintln!("usage: compare gate | compare long SEED COUNT | compare record FOLDER");
   ExitCode::from(2)
+}
+
+fn recorded(written: std::io::Result<()>) -> ExitCode {
+  match written {
+    Ok(()) => ExitCode::SUCCESS,
+    Err(e) => {
+      eprintln!("compare: {e}");
+      ExitCode::FAILURE
+    }
+  }
 }
 
 fn gate() -> Vec<Family> {
@@ -76,6 +89,7 @@ fn gate() -> Vec<Family> {
     tiny(),
     random("degenerate", GATE_SEED, 20_000, charts::degenerate),
     random("extreme", GATE_SEED, 5_000, charts::extreme),
+    random("near-tied", GATE_SEED, 5_000, charts::near_ties),
     random("any-size", GATE_SEED, 500, charts::any_size),
     random("full-size", GATE_SEED, 1_000, charts::full_size),
   ]
@@ -85,6 +99,7 @@ fn long(seed: u64, count: usize) -> Vec<Family> {
   vec![
     random("degenerate", seed, count, charts::degenerate),
     random("extreme", seed, count, charts::extreme),
+    random("near-tied", seed, count, charts::near_ties),
     random("any-size", seed, count, charts::any_size),
     random("full-size", seed, count, charts::full_size),
   ]

@@ -1,0 +1,164 @@
+//! Writes the Rust's answers on a fixed sample of charts, for programs of the library to replay:
+//! in each folder `stdin`, the charts, and `stdout`, what the Rust says of them, chart by chart.
+
+use std::fmt::Write;
+use std::fs;
+use std::io;
+use std::path::Path;
+
+use crate::answers::{Chart, End, Meeting, Point, is_upright};
+use crate::charts::{self, Random};
+use crate::file;
+use crate::kept;
+use crate::original::{self, Original};
+
+const SEED: u64 = 2;
+
+pub fn write(folder: &Path) -> io::Result<()> {
+  let (two, any) = (charts_of_two(), charts_of_any_count());
+  write_one(&folder.join("segment"), &two, segment)?;
+  write_one(&folder.join("place"), &two, place)?;
+  write_one(&folder.join("naive"), &any, naive)?;
+  write_one(&folder.join("sweep"), &any, sweep)?;
+  write_one(&folder.join("chart"), &any, listing)
+}
+
+/// A chart stands in `stdin` as its file's length, two bytes, low first, and its file.
+fn write_one(folder: &Path, charts: &[Chart], answer: fn(&Chart) -> String) -> io::Result<()> {
+  let mut stdin = Vec::new();
+  for chart in charts {
+    let bytes = file::write(chart);
+    stdin.extend((bytes.len() as u16).to_le_bytes());
+    stdin.extend(bytes);
+  }
+  fs::create_dir_all(folder)?;
+  fs::write(folder.join("stdin"), stdin)?;
+  fs::write(
+    folder.join("stdout"),
+    charts.iter().map(answer).collect::<String>(),
+  )
+}
+
+fn charts_of_two() -> Vec<Chart> {
+  let with = |count, make: fn(&mut Random) -> Chart| {
+    let charts = (0..).map(move |i| make(&mut Random::new(SEED, i)));
+    let long_enough = charts.filter(|c| c.len() > 1);
+    long_enough.map(|c| c[..2].to_vec()).take(count)
+  };
+  let tiny = (0..charts::TINY_CHARTS).map(charts::tiny);
+  let tiny = tiny.filter(|c| c.len() == 2).step_by(61);
+  let random = with(500, charts::degenerate).chain(with(400, charts::extreme));
+  tiny
+    .chain(random)
+    .chain(with(200, charts::near_ties))
+    .collect()
+}
+
+fn charts_of_any_count() -> Vec<Chart> {
+  let random = |count, make: fn(&mut Random) -> Chart| {
+    (0..count).map(move |i| make(&mut Random::new(SEED, i)))
+  };
+  let small = kept::charts()
+    .into_iter()
+    .chain(random(150, charts::degenerate));
+  let wide = random(40, charts::extreme).chain(random(30, charts::near_ties));
+  small
+    .chain(wide)
+    .chain(random(10, charts::full_size))
+    .collect()
+}
+
+/// Piece 0 asking piece 1: `nothing`, `crossing X Y D`, or `overlap` and both ends, each x, y and
+/// 1 where it is included.
+fn segment(chart: &Chart) -> String {
+  let original = Original::new(chart);
+  match (original.meeting_exact(0, 1), original.crossing(0, 1)) {
+    (Meeting::Nothing, _) => "nothing\n".to_string(),
+    (Meeting::Overlap(from, to), _) => format!("overlap {} {}\n", end(&from), end(&to)),
+    (Meeting::Crossing, Some(p)) => format!("crossing {}\n", point(&p)),
+    (Meeting::Crossing, None) => unreachable!("pieces that cross have a crossing"),
+  }
+}
+
+/// The place of the same meeting, each value as the 16 hexadecimal digits of its binary64.
+fn place(chart: &Chart) -> String {
+  let original = Original::new(chart);
+  let bits = |p: Point| {
+    let [x, y] = original::place(&p).map(f64::to_bits);
+    format!("{x:016x} {y:016x}")
+  };
+  let whole = |e: End| bits(Point::whole(e.x.into(), e.y.into()));
+  match (original.meeting_exact(0, 1), original.crossing(0, 1)) {
+    (Meeting::Nothing, _) => "nothing\n".to_string(),
+    (Meeting::Overlap(from, to), _) => format!("along {} {}\n", whole(from), whole(to)),
+    (Meeting::Crossing, Some(p)) => format!("at {}\n", bits(p)),
+    (Meeting::Crossing, None) => unreachable!("pieces that cross have a crossing"),
+  }
+}
+
+/// One line: the count of pairs, then each pair.
+fn naive(chart: &Chart) -> String {
+  let list = Original::new(chart).naive_exact();
+  let pairs: String = list.iter().map(|(a, b)| format!(" {a} {b}")).collect();
+  format!("{}{pairs}\n", list.len())
+}
+
+/// A line for each budget from 0 to the last step: steps done, pairs listed, whether the queue is
+/// empty, the last point; then the list.
+fn sweep(chart: &Chart) -> String {
+  let run = Original::new(chart).run();
+  let mut text = format!("chart {} complete {}\n", chart.len(), complete(chart));
+  let _ = writeln!(
+    text,
+    "0 listed 0 ended {} none",
+    yes_no(run.steps.is_empty())
+  );
+  for (m, step) in run.steps.iter().enumerate() {
+    let ended = yes_no(m + 1 == run.steps.len());
+    let (listed, visited) = (step.listed, point(&step.visited));
+    let _ = writeln!(text, "{} listed {listed} ended {ended} at {visited}", m + 1);
+  }
+  let pairs: String = run.list.iter().map(|(a, b)| format!(" {a} {b}")).collect();
+  let _ = writeln!(text, "list{pairs}");
+  text
+}
+
+/// The chart program's text.
+fn listing(chart: &Chart) -> String {
+  let original = Original::new(chart);
+  let run = original.run();
+  let mut text = format!("chart {}\ncomplete {}\n", chart.len(), complete(chart));
+  for (a, b) in run.list {
+    let place = match (original.meeting_exact(a, b), original.crossing(a, b)) {
+      (Meeting::Overlap(from, to), _) => {
+        format!("along {} {} {} {}", from.x, from.y, to.x, to.y)
+      }
+      (_, Some(p)) => format!("at {} {}", unit(p.x, p.d), unit(p.y, p.d)),
+      (_, None) => unreachable!("listed pairs overlap or cross"),
+    };
+    let _ = writeln!(text, "pair {a} {b} {place}");
+  }
+  let _ = writeln!(text, "steps {}", run.steps.len());
+  text
+}
+
+/// "the nearest whole unit to the exact value, halves to the larger"
+fn unit(v: i128, d: i128) -> i128 {
+  (2 * v + d).div_euclid(2 * d)
+}
+
+fn complete(chart: &Chart) -> &'static str {
+  yes_no(!chart.iter().any(is_upright))
+}
+
+fn yes_no(yes: bool) -> &'static str {
+  if yes { "yes" } else { "no" }
+}
+
+fn end(e: &End) -> String {
+  format!("{} {} {}", e.x, e.y, u8::from(e.included))
+}
+
+fn point(p: &Point) -> String {
+  format!("{} {} {}", p.x, p.y, p.d)
+}
