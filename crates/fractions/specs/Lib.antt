@@ -1,4 +1,5 @@
 pub mod Order
 pub mod Fraction
+pub mod Limbs
 pub mod Divisor
 pub mod Point

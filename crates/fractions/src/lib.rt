@@ -1,12 +1,9 @@
 // Fractions and points of the chart, compared exactly. Every function takes every value of its
 // types.
 
-// Which of two is less.
-pub enum Order {
-    Less,
-    Equal,
-    Greater,
-}
+mod limbs;
+
+pub use integers::Ordering;
 
 // A fraction by sign and size: `over` above the line, below 0 where `negative`, and `under` below it.
 pub struct Fraction {

@@ -56,7 +56,7 @@ module _ (C : Chart) where
     steps = s .steps;
     ended = is-none (next C s);
     complete = not (any upright (upto n));
-    last = s .last
+    last = s .last;
   }
 
   unfoldable pub answer : ℕ → Answer

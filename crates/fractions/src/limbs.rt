@@ -1,0 +1,100 @@
+// Numbers of two limbs, 64 bits each: room for the products that outgrow 64 bits.
+use integers::Ordering;
+ghost use mathlib.Core.Path.{_≡_};
+ghost use Prim.Native.Nat.{_+_, _*_, _^_, _≤_};
+ghost use lib.IntN.{pos, negℤ};
+ghost use Rattle.integers.specs.Order.{orderOf};
+ghost use Rattle.fractions.specs.Limbs.{value};
+
+// The number hi * 2^64 + lo.
+pub struct Wide {
+    pub hi: u64,
+    pub lo: u64,
+}
+
+// What is left of a number less another, and the borrow: 1 where the other is the greater.
+pub struct Rest {
+    pub left: u64,
+    pub borrow: u64,
+}
+
+const HALF: u64 = 4294967296;
+
+// x + y, with its carry as the high limb: a sum that wrapped is below each of its terms.
+fn sum(x: u64, y: u64) -> Wide
+    ensures { λ r. ⌜ value r ≡ x + y ⌝ }
+{
+    let lo = std::num::wrapping_add_u64(x, y);
+    if lo < x {
+        Wide { hi: 1, lo }
+    } else {
+        Wide { hi: 0, lo }
+    }
+}
+
+// x - y: a difference that wrapped is above x.
+fn difference(x: u64, y: u64) -> Rest
+    ensures { λ r. ⌜ (r .left + y ≡ r .borrow * 2 ^ 64 + x) × (r .borrow ≤ 1) ⌝ }
+{
+    let left = std::num::wrapping_sub_u64(x, y);
+    if x < left {
+        Rest { left, borrow: 1 }
+    } else {
+        Rest { left, borrow: 0 }
+    }
+}
+
+// The whole product, by halves of 32 bits.
+pub fn product(a: u64, b: u64) -> Wide
+    ensures { λ r. ⌜ value r ≡ a * b ⌝ }
+{
+    let a0 = a % HALF;
+    let a1 = a / HALF;
+    let b0 = b % HALF;
+    let b1 = b / HALF;
+    let mid = sum(a0 * b1, a1 * b0);
+    let low = sum(a0 * b0, mid.lo % HALF * HALF);
+    Wide {
+        hi: a1 * b1 + mid.lo / HALF + mid.hi * HALF + low.hi,
+        lo: low.lo,
+    }
+}
+
+// The order of x and y by their difference, limb by limb: a borrow at the end says that y is the
+// greater.
+pub fn compare(x: Wide, y: Wide) -> Ordering
+    ensures { λ r. ⌜ r ≡ orderOf (pos (value x)) (pos (value y)) ⌝ }
+{
+    let low = difference(x.lo, y.lo);
+    let high = difference(x.hi, y.hi);
+    let last = difference(high.left, low.borrow);
+    if 0 < high.borrow + last.borrow {
+        return Ordering::Less;
+    }
+    if 0 < last.left {
+        return Ordering::Greater;
+    }
+    if 0 < low.left {
+        return Ordering::Greater;
+    }
+    Ordering::Equal
+}
+
+// The order of -x and y: they meet only at 0.
+pub fn compare_across(x: Wide, y: Wide) -> Ordering
+    ensures { λ r. ⌜ r ≡ orderOf (negℤ (pos (value x))) (pos (value y)) ⌝ }
+{
+    if 0 < x.hi {
+        return Ordering::Less;
+    }
+    if 0 < x.lo {
+        return Ordering::Less;
+    }
+    if 0 < y.hi {
+        return Ordering::Less;
+    }
+    if 0 < y.lo {
+        return Ordering::Less;
+    }
+    Ordering::Equal
+}
