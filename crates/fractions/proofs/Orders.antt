@@ -1,37 +1,85 @@
--- Answers Less, Equal, Greater: turned round, one after another, and from a comparison of natural numbers.
-use mathlib.Core.Path.{_≡_, refl, sym, ap}
+-- The answer `order a b`: what gives it (`order-less`), what it says (`answer`, `less-order`), and the answer turned round.
+use mathlib.Core.Path.{_≡_, sym, ap, subst}
 use Prim.Native.Nat.{ℕ, zero, suc, _+_, _*_, _^_, _<_, _≤_}
 use native.Mathlib.Omega.{arith}
-use lib.Dec.{lt→ltb}
 use lib.IntN.{ℤ, pos, negℤ}
-use lib.Signed.{ltZ-yes}
-use Rattle.integers.specs.Order.{orderOf}
-use Rattle.integers.specs.declared.Ordering.{Ordering}
-use Rattle.integers.specs.declared.Ordering.the-variants.{Less, Equal, Greater}
-use Rattle.integers.proofs.Comparison.{order-less, order-equal, order-greater, by-order}
-use Rattle.fractions.specs.Order.{turned, andThen}
+use lib.Signed.{_<ℤ_, ltZ-yes}
+use Rattle.integers.proofs.Naturals.{pos-<}
+use Rattle.integers.proofs.Comparison.{three-less, three-equal, three-greater, by-three}
+use Rattle.fractions.specs.Order.{order, turned}
+use Rattle.fractions.specs.declared.Order.{Order}
+use Rattle.fractions.specs.declared.Order.the-variants.{Less, Equal, Greater}
 
-pub order-turned : (a b : ℤ) → orderOf b a ≡ turned (orderOf a b)
+-- ---- from an order to the answer
+module _ {a b : ℤ} where
+  pub order-less : a <ℤ b → order a b ≡ Less
+  unfolding order
+  order-less h = three-less Less Equal Greater h
+
+  pub order-equal : a ≡ b → order a b ≡ Equal
+  unfolding order
+  order-equal e = three-equal Less Equal Greater e
+
+  pub order-greater : b <ℤ a → order a b ≡ Greater
+  unfolding order
+  order-greater h = three-greater Less Equal Greater h
+
+-- ---- what the answer says
+pub data Answer (a b : ℤ) : Order → Type 0 where
+  is-less : a <ℤ b → Answer a b Less
+  is-equal : a ≡ b → Answer a b Equal
+  is-greater : b <ℤ a → Answer a b Greater
+
+pub answer : (a b : ℤ) → Answer a b (order a b)
+unfolding order
+answer a b = by-three a b (Answer a b) is-less is-equal is-greater
+
+module _ (a b : ℤ) where
+  pub less-order : order a b ≡ Less → a <ℤ b
+  less-order e = go (subst (Answer a b) e (answer a b))
+    where
+      go : Answer a b Less → a <ℤ b
+      go (is-less h) = h
+
+  pub equal-order : order a b ≡ Equal → a ≡ b
+  equal-order e = go (subst (Answer a b) e (answer a b))
+    where
+      go : Answer a b Equal → a ≡ b
+      go (is-equal h) = h
+
+  pub greater-order : order a b ≡ Greater → b <ℤ a
+  greater-order e = go (subst (Answer a b) e (answer a b))
+    where
+      go : Answer a b Greater → b <ℤ a
+      go (is-greater h) = h
+
+-- ---- the answer turned round
+pub order-turned : (a b : ℤ) → order b a ≡ turned (order a b)
 unfolding turned
-order-turned a b = by-order a b (λ (o : Ordering). orderOf b a ≡ turned o) order-greater (λ e. order-equal (sym e)) order-less
+order-turned a b = go (answer a b)
+  where
+    go : {o : Order} → Answer a b o → order b a ≡ turned o
+    go (is-less h) = order-greater h
+    go (is-equal e) = order-equal (sym e)
+    go (is-greater h) = order-less h
 
--- what a test of the code shows
+-- ---- what a test of the code shows
 module _ {x y : ℕ} where
-  pub nat-less : x < y → Less ≡ orderOf (pos x) (pos y)
-  nat-less h = sym (order-less (ltZ-yes (lt→ltb x y h)))
+  pub nat-less : x < y → Less ≡ order (pos x) (pos y)
+  nat-less h = sym (order-less (pos-< h))
 
-  pub nat-equal : x ≡ y → Equal ≡ orderOf (pos x) (pos y)
+  pub nat-equal : x ≡ y → Equal ≡ order (pos x) (pos y)
   nat-equal e = sym (order-equal (ap pos e))
 
-  pub nat-greater : y < x → Greater ≡ orderOf (pos x) (pos y)
-  nat-greater h = sym (order-greater (ltZ-yes (lt→ltb y x h)))
+  pub nat-greater : y < x → Greater ≡ order (pos x) (pos y)
+  nat-greater h = sym (order-greater (pos-< h))
 
 -- -x and y meet only at 0
-pub across-less : (x y : ℕ) → 0 < x + y → Less ≡ orderOf (negℤ (pos x)) (pos y)
+pub across-less : (x y : ℕ) → 0 < x + y → Less ≡ order (negℤ (pos x)) (pos y)
 across-less zero y h = nat-less (omega arith)
 across-less (suc x) y h = sym (order-less (ltZ-yes tt))
 
-pub across-equal : (x y : ℕ) → x ≤ 0 → y ≤ 0 → Equal ≡ orderOf (negℤ (pos x)) (pos y)
+pub across-equal : (x y : ℕ) → x ≤ 0 → y ≤ 0 → Equal ≡ order (negℤ (pos x)) (pos y)
 across-equal zero y h k = nat-equal (omega arith)
 across-equal (suc x) y h k = absurd (omega arith)
 

@@ -1,19 +1,24 @@
 -- The order of two fractions, over the whole numbers.
 use mathlib.Core.Bool.{cond}
 use Prim.Native.Nat.{ℕ}
-use lib.IntN.{ℤ, pos, negℤ, _*ℤ_}
-use Rattle.integers.specs.Order.{orderOf}
-use Rattle.integers.specs.declared.Ordering.{Ordering}
+use lib.IntN.{ℤ, pos, negℤ, natAbs, _*ℤ_}
+use lib.Signed.{ltZ}
+use Rattle.fractions.specs.Order.{order}
+use Rattle.fractions.specs.declared.Order.{Order}
 use Rattle.fractions.specs.declared.Fraction.{Fraction}
 
 -- "Order of two fractions is exact, though the products compared outgrow 64 bits."
 -- x over d against y over e, by cross-multiplication
-unfoldable pub ratioOrder : ℤ → ℕ → ℤ → ℕ → Ordering
-ratioOrder x d y e = orderOf (x *ℤ pos e) (y *ℤ pos d)
+unfoldable pub ratioOrder : ℤ → ℕ → ℤ → ℕ → Order
+ratioOrder x d y e = order (x *ℤ pos e) (y *ℤ pos d)
 
 -- what stands above the line, with its sign
 unfoldable pub above : Fraction → ℤ
 above f = cond (f .negative) (negℤ (pos (f .over))) (pos (f .over))
 
-unfoldable pub fractionOrder : Fraction → Fraction → Ordering
+unfoldable pub fractionOrder : Fraction → Fraction → Order
 fractionOrder a b = ratioOrder (above a) (a .under) (above b) (b .under)
+
+-- x over d by sign and size
+unfoldable pub fractionOf : ℤ → ℕ → Fraction
+fractionOf x d = record { negative = ltZ x (pos 0); over = natAbs x; under = d }

@@ -1,14 +1,21 @@
--- Less, Equal, Greater: the same two seen from the other side, and one answer after another.
-use Rattle.integers.specs.declared.Ordering.{Ordering}
-use Rattle.integers.specs.declared.Ordering.the-variants.{Less, Equal, Greater}
+-- Less, Equal, Greater: what each says of two whole numbers.
+use lib.IntN.{ℤ}
+use Rattle.integers.specs.Order.{three}
+use Rattle.fractions.specs.declared.Order.{Order}
+use Rattle.fractions.specs.declared.Order.the-variants.{Less, Equal, Greater}
 
-unfoldable pub turned : Ordering → Ordering
+-- Less where a is below b, Greater where b is below a
+unfoldable pub order : ℤ → ℤ → Order
+order a b = three Less Equal Greater a b
+
+-- seen from the other side
+unfoldable pub turned : Order → Order
 turned Less = Greater
 turned Equal = Equal
 turned Greater = Less
 
 -- the second answer where the first is Equal
-unfoldable pub andThen : Ordering → Ordering → Ordering
+unfoldable pub andThen : Order → Order → Order
 andThen Less o = Less
 andThen Equal o = o
 andThen Greater o = Greater

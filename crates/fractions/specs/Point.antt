@@ -6,7 +6,7 @@ use lib.Signed.{quotZ}
 use Rattle.fractions.specs.Order.{andThen}
 use Rattle.fractions.specs.Fraction.{ratioOrder}
 use Rattle.fractions.specs.Divisor.{gcdOf}
-use Rattle.integers.specs.declared.Ordering.{Ordering}
+use Rattle.fractions.specs.declared.Order.{Order}
 use Rattle.fractions.specs.declared.Point.{Point}
 
 -- "A point is X, Y, D, D positive, with no common divisor above 1"
@@ -21,7 +21,7 @@ pub record Bounded (p : Point) : Type 0 where
   pub y-small : natAbs (p .y) < 2 ^ 48
 
 -- "Points are ordered by x, then y."
-unfoldable pub pointOrder : Point → Point → Ordering
+unfoldable pub pointOrder : Point → Point → Order
 pointOrder p q =
     andThen (ratioOrder (p .x) (p .d) (q .x) (q .d)) (ratioOrder (p .y) (p .d) (q .y) (q .d))
 

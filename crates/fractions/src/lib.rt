@@ -3,7 +3,12 @@
 
 mod limbs;
 
-pub use integers::Ordering;
+// Which of two is less.
+pub enum Order {
+    Less,
+    Equal,
+    Greater,
+}
 
 // A fraction by sign and size: `over` above the line, below 0 where `negative`, and `under` below it.
 pub struct Fraction {

@@ -1,9 +1,9 @@
 // Numbers of two limbs, 64 bits each: room for the products that outgrow 64 bits.
-use integers::Ordering;
+use crate::Order;
 ghost use mathlib.Core.Path.{_≡_};
 ghost use Prim.Native.Nat.{_+_, _*_, _^_, _≤_};
 ghost use lib.IntN.{pos, negℤ};
-ghost use Rattle.integers.specs.Order.{orderOf};
+ghost use Rattle.fractions.specs.Order.{order};
 ghost use Rattle.fractions.specs.Limbs.{value};
 
 // The number hi * 2^64 + lo.
@@ -62,39 +62,39 @@ pub fn product(a: u64, b: u64) -> Wide
 
 // The order of x and y by their difference, limb by limb: a borrow at the end says that y is the
 // greater.
-pub fn compare(x: Wide, y: Wide) -> Ordering
-    ensures { λ r. ⌜ r ≡ orderOf (pos (value x)) (pos (value y)) ⌝ }
+pub fn compare(x: Wide, y: Wide) -> Order
+    ensures { λ r. ⌜ r ≡ order (pos (value x)) (pos (value y)) ⌝ }
 {
     let low = difference(x.lo, y.lo);
     let high = difference(x.hi, y.hi);
     let last = difference(high.left, low.borrow);
     if 0 < high.borrow + last.borrow {
-        return Ordering::Less;
+        return Order::Less;
     }
     if 0 < last.left {
-        return Ordering::Greater;
+        return Order::Greater;
     }
     if 0 < low.left {
-        return Ordering::Greater;
+        return Order::Greater;
     }
-    Ordering::Equal
+    Order::Equal
 }
 
 // The order of -x and y: they meet only at 0.
-pub fn compare_across(x: Wide, y: Wide) -> Ordering
-    ensures { λ r. ⌜ r ≡ orderOf (negℤ (pos (value x))) (pos (value y)) ⌝ }
+pub fn compare_across(x: Wide, y: Wide) -> Order
+    ensures { λ r. ⌜ r ≡ order (negℤ (pos (value x))) (pos (value y)) ⌝ }
 {
     if 0 < x.hi {
-        return Ordering::Less;
+        return Order::Less;
     }
     if 0 < x.lo {
-        return Ordering::Less;
+        return Order::Less;
     }
     if 0 < y.hi {
-        return Ordering::Less;
+        return Order::Less;
     }
     if 0 < y.lo {
-        return Ordering::Less;
+        return Order::Less;
     }
-    Ordering::Equal
+    Order::Equal
 }
