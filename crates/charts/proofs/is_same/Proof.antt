@@ -1,0 +1,9 @@
+use Rattle.charts.proofs.Numbers.{eq-bits}
+use Rattle.charts.proofs.is_same.Statement.{statement}
+use Rattle.charts.proofs.is_same.Tie as tie
+
+returns : tie.Need-returns
+returns c = eq-bits (c .args .a) (c .args .b) (c .fits .a) (c .fits .b)
+
+pub is-same-spec : {M : Type 1} → statement M
+is-same-spec = tie.close (tie.spec returns)

@@ -1,0 +1,65 @@
+-- What is promised of refusals: "given exactly when". A number is given if and only if its row of the table holds and no
+-- earlier one does; the rows are stated here over whole numbers, apart from the tests that `verdictOf` makes.
+use mathlib.Core.Path.{_≡_}
+use mathlib.Core.Logic.{_⊎_, _↔_}
+use mathlib.Core.List.{List}
+use Prim.Native.Nat.{ℕ, suc, _*_, _<_, _≤_}
+use lib.IntN.{ℤ, pos, negℤ}
+use lib.ListN.{length}
+use lib.Signed.{_<ℤ_}
+use Rattle.charts.specs.Fault.{range, faultOf}
+use Rattle.charts.specs.Chart.{most, numberAt, verdictOf}
+use Rattle.charts.specs.declared.Verdict.{Verdict}
+use Rattle.charts.specs.declared.Verdict.the-variants.{Accepted, Refused}
+
+abbrev pub Outside : ℤ → ℤ → ℤ → Type 0
+Outside low high v = (v <ℤ low) ⊎ (high <ℤ v)
+
+abbrev pub Off : ℤ → Type 0
+Off v = Outside (negℤ range) range v
+
+-- ---- one piece
+module _ (kind x1 y1 x2 y2 : ℤ) where
+  -- "4: kind outside 0 to 3"
+  abbrev pub Row4 : Type 0
+  Row4 = Outside (pos 0) (pos 3) kind
+
+  -- "5: coordinate out of range", of either end
+  abbrev pub Row5 : Type 0
+  Row5 = (Off x1 ⊎ Off y1) ⊎ (Off x2 ⊎ Off y2)
+
+  -- "6: both ends of a piece equal"
+  abbrev pub Row6 : Type 0
+  Row6 = (x1 ≡ x2) × (y1 ≡ y2)
+
+  -- the fault that is due to the piece, 0 where no row holds
+  pub data Fault : ℕ → Type 0 where
+    none : ¬ Row4 → ¬ Row5 → ¬ Row6 → Fault 0
+    four : Row4 → Fault 4
+    five : ¬ Row4 → Row5 → Fault 5
+    six : ¬ Row4 → ¬ Row5 → Row6 → Fault 6
+
+  abbrev pub FaultExactly : Type 0
+  FaultExactly = (k : ℕ) → (faultOf kind x1 y1 x2 y2 ≡ k) ↔ Fault k
+
+-- ---- the list
+module _ (list : List ℤ) where
+  -- the fault due to piece i
+  abbrev pub FaultOf : ℕ → ℕ → Type 0
+  FaultOf i = Fault (numberAt list i 0) (numberAt list i 1) (numberAt list i 2) (numberAt list i 3) (numberAt list i 4)
+
+  abbrev pub Sound : ℕ → Type 0
+  Sound n = (i : ℕ) → i < n → FaultOf i 0
+
+  -- the verdict that is due to the list
+  pub data Due : Verdict → Type 0 where
+    -- "9: a list's length is no multiple of five"
+    nine : ((n : ℕ) → ¬ (length list ≡ 5 * n)) → Due (Refused 9 0)
+    -- "3: count above 64"
+    three : (n : ℕ) → length list ≡ 5 * n → most < n → Due (Refused 3 0)
+    -- "piece by piece 4, 5 (either end), 6"; "the place is the piece's number"
+    piece : (n : ℕ) → length list ≡ 5 * n → n ≤ most → (i k : ℕ) → i < n → Sound i → FaultOf i (suc k) → Due (Refused (suc k) i)
+    done : (n : ℕ) → length list ≡ 5 * n → n ≤ most → Sound n → Due (Accepted n)
+
+abbrev pub RefusesExactly : Type 0
+RefusesExactly = (list : List ℤ) (v : Verdict) → (verdictOf list ≡ v) ↔ Due list v

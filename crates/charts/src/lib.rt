@@ -1,0 +1,105 @@
+ghost use mathlib.Core.Path.{_≡_};
+ghost use Prim.Native.Nat.{_<_};
+ghost use Rattle.charts.specs.Fault.{outside, offRange, eqZ, sameEnds, faultOf};
+ghost use Rattle.charts.specs.Chart.{numberAt, faultAt, verdictOf};
+
+// A chart has at most so many pieces.
+pub const MOST: usize = 64;
+
+// Coordinates run from -RANGE to RANGE.
+pub const RANGE: i32 = 32767;
+
+pub enum Verdict {
+    // a chart of so many pieces
+    Accepted(usize),
+    // the number and the place of its first fault
+    Refused(u8, usize),
+}
+
+fn is_outside(low: i32, high: i32, v: i32) -> bool
+    ensures { λ r. ⌜ r ≡ outside low high v ⌝ }
+{
+    v < low || high < v
+}
+
+fn is_off_range(x: i32, y: i32) -> bool
+    ensures { λ r. ⌜ r ≡ offRange x y ⌝ }
+{
+    is_outside(-RANGE, RANGE, x) || is_outside(-RANGE, RANGE, y)
+}
+
+fn is_same(a: i32, b: i32) -> bool
+    ensures { λ r. ⌜ r ≡ eqZ a b ⌝ }
+{
+    a == b
+}
+
+fn has_same_ends(x1: i32, y1: i32, x2: i32, y2: i32) -> bool
+    ensures { λ r. ⌜ r ≡ sameEnds x1 y1 x2 y2 ⌝ }
+{
+    is_same(x1, x2) && is_same(y1, y2)
+}
+
+// The number of the refusal that these five numbers of a piece meet, 0 where they meet none.
+pub fn fault_of(kind: i32, x1: i32, y1: i32, x2: i32, y2: i32) -> u8
+    ensures { λ r. ⌜ r ≡ faultOf kind x1 y1 x2 y2 ⌝ }
+{
+    if is_outside(0, 3, kind) {
+        return 4;
+    }
+    if is_off_range(x1, y1) {
+        return 5;
+    }
+    if is_off_range(x2, y2) {
+        return 5;
+    }
+    if has_same_ends(x1, y1, x2, y2) {
+        return 6;
+    }
+    0
+}
+
+fn number_at(list: &[i32], i: usize, k: usize) -> i32
+    requires { ⌜ k < 5 ⌝ }
+    ensures { λ r. ⌜ r ≡ numberAt (now (list .entry)) i k ⌝ }
+{
+    if list.len() <= i {
+        return 0;
+    }
+    let at = 5 * i + k;
+    if list.len() <= at {
+        return 0;
+    }
+    list[at]
+}
+
+fn fault_at(list: &[i32], i: usize) -> u8
+    ensures { λ r. ⌜ r ≡ faultAt (now (list .entry)) i ⌝ }
+{
+    fault_of(
+        number_at(list, i, 0),
+        number_at(list, i, 1),
+        number_at(list, i, 2),
+        number_at(list, i, 3),
+        number_at(list, i, 4),
+    )
+}
+
+pub fn verdict_of(list: &[i32]) -> Verdict
+    ensures { λ r. ⌜ r ≡ verdictOf (now (list .entry)) ⌝ }
+{
+    let n = list.len() / 5;
+    if list.len() % 5 != 0 {
+        return Verdict::Refused(9, 0);
+    }
+    if MOST < n {
+        return Verdict::Refused(3, 0);
+    }
+    for i in 0..n {
+        let fault = fault_at(list, i);
+        if fault != 0 {
+            return Verdict::Refused(fault, i);
+        }
+    }
+    Verdict::Accepted(n)
+}
