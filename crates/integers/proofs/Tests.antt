@@ -12,7 +12,7 @@ use mir.Val.{Fits, SFits, toZ, ofZ, hbits}
 use mir.ValLaws.{toZ-ofZ}
 use mir.Facts.{toZ-inj}
 use Rattle.integers.proofs.Order.{leZ-no}
-use Rattle.integers.proofs.Machine.{Mach, and-l, and-r, m-small, m-kept, m-result, steps}
+use Rattle.integers.proofs.Machine.{Mach, and-l, and-r, m-small, m-kept, m-result, m-unsigned, steps}
 
 pub record Test (t : Bool) : Type 1 where
   pub fine : Bool
@@ -85,7 +85,7 @@ pub ruleset tests = (t-lt, t-le, t-eq, i-fits, i-mag)
 -- `sized` wants a `Small` fact of every leaf, `ranged` only that it is in its type's range. Two sets: in one, `search` would take the second for the first
 pub ruleset sized = (tests, steps, m-small)
 
-pub ruleset ranged = (tests, steps, m-kept, m-result)
+pub ruleset ranged = (tests, steps, m-kept, m-result, m-unsigned)
 
 under : (x y : ℤ) → SFits w64 x → SFits w64 y → ltZ (toZ w64 (ofZ w64 x)) (toZ w64 (ofZ w64 y)) ≡ true → x <ℤ y
 under x y f g h = m-yes h (search ranged depth 60 fits 20000) tt
