@@ -64,8 +64,8 @@ pub enum Meeting {
   Overlap(End, End),
 }
 
-/// What a half-line towards a piece says: past which side of the line the piece leans at an end
-/// that lies on it, or that it crosses.
+/// A side of a line. Of a half-line against a piece: the side on which the piece goes on from an
+/// end that lies on the half-line, or CoLinear where it goes on on both.
 #[derive(Clone, Copy, PartialEq, Eq, Debug)]
 pub enum Side {
   CounterClockWise,

@@ -4,7 +4,7 @@ use std::fmt::Debug;
 
 use crate::answers::{Chart, Pair};
 use crate::original::Original;
-use crate::{file, half_line, naive, order, place, segment, sweep};
+use crate::{file, half_line, naive, order, orient, place, segment, sweep};
 
 pub struct Case {
   pub chart: Chart,
@@ -30,6 +30,7 @@ pub fn check(chart: &Chart) -> Result<(), String> {
     chart: chart.clone(),
     original: Original::new(chart),
   };
+  orient::compare(&case)?;
   segment::compare(&case)?;
   place::compare(&case)?;
   half_line::compare(&case)?;

@@ -82,6 +82,17 @@ impl Original {
   }
 }
 
+/// Which way the points p, q, r turn.
+pub fn orient(p: [i32; 2], q: [i32; 2], r: [i32; 2]) -> Side {
+  let [p, q, r] = [p, q, r].map(|c| Corner::new(c.map(i64::from)));
+  side(Corner::orient(&p, &q, &r))
+}
+
+pub fn orient_exact(p: [i32; 2], q: [i32; 2], r: [i32; 2]) -> Side {
+  let [p, q, r] = [p, q, r].map(|c| Corner::new(c.map(exact)));
+  side(Corner::orient(&p, &q, &r))
+}
+
 /// The order of two points whose coordinates are fractions.
 pub fn order(p: &Point, q: &Point) -> Ordering {
   corner_of(p).cmp(&corner_of(q))
@@ -132,12 +143,16 @@ fn meeting<T: PolygonScalar>(a: &Edge<T>, b: &Edge<T>, value: impl Fn(&T) -> i64
 
 fn half_line<T: PolygonScalar>(a: &Edge<T>, b: &Edge<T>) -> Option<Side> {
   let ray = HalfLineSoS::new_through(a.segment.min.inner(), a.segment.max.inner());
-  let IHalfLineLineSegmentSoS::Crossing(side) = (&ray).intersect(b.segment.as_ref())?;
-  Some(match side {
+  let IHalfLineLineSegmentSoS::Crossing(turn) = (&ray).intersect(b.segment.as_ref())?;
+  Some(side(turn))
+}
+
+fn side(turn: Orientation) -> Side {
+  match turn {
     Orientation::CounterClockWise => Side::CounterClockWise,
     Orientation::ClockWise => Side::ClockWise,
     Orientation::CoLinear => Side::CoLinear,
-  })
+  }
 }
 
 fn step(step: record::Step) -> Step {

@@ -1,0 +1,18 @@
+//! This library's calls, as crates/chart_c/include/mirtalughe.h has them.
+
+use crate::answers::Side;
+
+#[link(name = "chart_c", kind = "static")]
+unsafe extern "C" {
+  safe fn mirtalughe_orient(x1: i16, y1: i16, x2: i16, y2: i16, x3: i16, y3: i16) -> i8;
+}
+
+pub fn orient(p: [i32; 2], q: [i32; 2], r: [i32; 2]) -> Side {
+  let [x1, y1, x2, y2, x3, y3] = [p[0], p[1], q[0], q[1], r[0], r[1]].map(|v| v as i16);
+  match mirtalughe_orient(x1, y1, x2, y2, x3, y3) {
+    1 => Side::CounterClockWise,
+    -1 => Side::ClockWise,
+    0 => Side::CoLinear,
+    other => panic!("{other} is the number of no turn"),
+  }
+}
