@@ -8,3 +8,4 @@ pub mod Run
 pub mod Sought
 pub mod Geometry
 pub mod Demand
+pub mod Ported
