@@ -70,5 +70,5 @@ ported n piece =
       contains = λ i p. containsOf (piece i) p;
       test = λ i j. kindOf (intersectOf (piece i) (piece j));
       crossing = λ i j. crossingOf (piece i) (piece j);
-      before = λ p i j. isLess (rankOrder piece p i j)
+      before = λ p i j. isLess (rankOrder piece p i j);
     }
