@@ -1,0 +1,121 @@
+-- What holds between two steps, and why then no crossing is missed.
+use mathlib.Core.Path.{_≡_, refl, sym, ap, _∙_}
+use mathlib.Core.Logic.{_⊎_, inl, inr, ⊎-elim, _≢_, by-cases}
+use mathlib.Core.Bool.{Bool, true, false}
+use mathlib.Core.Option.{Option, none, some}
+use mathlib.Core.List.{List, [], _∷_}
+use mathlib.Core.List.{List·Memᴰ as In}
+use Prim.Native.Nat.{ℕ, zero, suc, _≤_, _<_}
+use native.Mathlib.Omega.{arith}
+use native.Mathlib.Decide.{decLt}
+use Rattle.sweep.specs.Lists.{Pair, lesser-first, adjacent, Pairwise}
+use Rattle.sweep.specs.Chart.{Kind, nothing, crosses, Chart, meets, kind, at}
+use Rattle.sweep.specs.State.{Marks, State}
+use Rattle.sweep.specs.Sought.{first}
+use Rattle.sweep.specs.Geometry.{Occurs}
+use Rattle.sweep.specs.Demand.{Pieces}
+use Rattle.sweep.proofs.Ranked.{Ranked}
+use Rattle.sweep.proofs.Neighbours.{CrossAt, neighbours}
+use Rattle.sweep.proofs.First.{first-crosses, pair-pieces, pair-kind, pair-at}
+
+pub which : {A : Type 0} (o : Option A) → (o ≡ none) ⊎ ((a : A) × (o ≡ some a))
+which none = inl refl
+which (some a) = inr (a, refl)
+
+-- keys below the bound are done: none before the first step, then all up to the last point
+unfoldable pub bound : {P : Type 0} → (P → ℕ) → Option P → ℕ
+bound key none = 0
+bound key (some p) = suc (key p)
+
+pub bound-none : {P : Type 0} (key : P → ℕ) → bound key none ≡ 0
+unfolding bound
+bound-none key = refl
+
+pub bound-some : {P : Type 0} (key : P → ℕ) (p : P) → bound key (some p) ≡ suc (key p)
+unfolding bound
+bound-some key p = refl
+
+module _ (C : Chart) where
+  -- a pair that is listed, or waits, or does not meet
+  abbrev pub Known : Marks → Pair → Type 0
+  Known m q = In q (m .listed) ⊎ (In q (m .waiting) ⊎ (kind C q ≡ nothing))
+
+  module _ (F : Ranked C) where
+    open Chart C using (Point, n, min, max, test, crossing, before)
+    open Ranked F using (key)
+
+    -- the pairs listed are those that met below t; those that wait cross at t or later
+    pub record Good (t : ℕ) (m : Marks) : Type 0 where
+      pub met : (q : Pair) → In q (m .listed) → Pieces C q × (meets (kind C q) ≡ true) × (key (first C q) < t)
+      pub full : (q : Pair) → Pieces C q → meets (kind C q) ≡ true → key (first C q) < t → In q (m .listed)
+      pub ahead : (q : Pair) → In q (m .waiting) → Pieces C q × (kind C q ≡ crosses) × (t ≤ key (at C q))
+
+    pub record Inv (s : State C) : Type 0 where
+      pub last-occurs : (p : Point) → s .last ≡ some p → Occurs C p
+      pub good : Good (bound key (s .last)) (s .marks)
+      -- the active pieces are those that have begun and not ended, each once, in order, and every neighbours' pair is known
+      pub active-out : (i : ℕ) → In i (s .active) → (i < n) × (key (min i) < bound key (s .last)) × (bound key (s .last) ≤ key (max i))
+      pub active-in : (i : ℕ) → i < n → key (min i) < bound key (s .last) → bound key (s .last) ≤ key (max i) → In i (s .active)
+      pub line : (p : Point) → s .last ≡ some p → Pairwise (λ i j. before p i j ≡ true) (s .active)
+      pub once : Pairwise (λ i j. i ≢ j) (s .active)
+      pub known : (q : Pair) → In q (adjacent (s .active)) → Known (s .marks) q
+
+    -- from the bound up to z there is no end and no crossing of a waiting pair: then there is no crossing at all
+    module _ (s : State C) (I : Inv s) (z : ℕ)
+        (no-min : (i : ℕ) → i < n → bound key (s .last) ≤ key (min i) → z ≤ key (min i))
+        (no-max : (i : ℕ) → i < n → bound key (s .last) ≤ key (max i) → z ≤ key (max i))
+        (no-wait : (q : Pair) → In q (s .marks .waiting) → z ≤ key (at C q)) where
+      -- a piece through a point c in between is active
+      under : (i : ℕ) (c : Point) → i < n → Occurs C c → F .On i c → bound key (s .last) ≤ key c → key c < z → (key (min i) < bound key (s .last)) × (bound key (s .last) ≤ key (max i))
+      under i c hi oc on b k =
+          let r = F .on-range i c hi oc on in (
+            by-cases (decLt (key (min i)) (bound key (s .last)))
+                (λ (h : key (min i) < bound key (s .last)). h)
+                (λ (h : ¬ (key (min i) < bound key (s .last))). absurd (omega (arith, no-min i hi (omega arith)))),
+            omega arith,
+          )
+
+      -- neighbours that cross at c would be listed or wait, and neither can be
+      pair-absurd : (p c : Point) → bound key (s .last) ≤ key c → key c < z → CrossAt C F p c (adjacent (s .active)) → ⊥
+      pair-absurd p c b k r =
+          let q : Pair = lesser-first (r .a) (r .b) in
+          let kd : kind C q ≡ crosses = pair-kind C F (r .a) (r .b) (r .a-in) (r .b-in) (r .apart) ∙ r .meet in
+          let ca : key (at C q) ≡ key c = ap key (pair-at C F (r .a) (r .b) (r .a-in) (r .b-in) (r .apart) (r .meet) ∙ sym (r .there-at)) in
+          let fa : key (first C q) ≡ key (at C q) = ap key (first-crosses C q kd) in
+          ⊎-elim
+          (λ (m : In q (s .marks .listed)). omega (arith, (I .good .met q m) .2))
+          (λ (h : In q (s .marks .waiting) ⊎ (kind C q ≡ nothing)).
+          ⊎-elim
+          (λ (m : In q (s .marks .waiting)). omega (arith, no-wait q m))
+          (λ (e : kind C q ≡ nothing). let w : _≡_ {A = ℕ} 0 1 = cc in omega arith)
+          h)
+          (I .known q (r .member))
+
+      -- by induction on the key of the crossing: the least one left is a crossing of neighbours
+      quiet : (f i j : ℕ) → i < n → j < n → i ≢ j → test i j ≡ crosses → key (crossing i j) < f → bound key (s .last) ≤ key (crossing i j) → key (crossing i j) < z → ⊥
+      quiet zero i j hi hj ne k hf hb hz = omega arith
+      quiet (suc f) i j hi hj ne k hf hb hz =
+          let on = F .crossing-on i j hi hj ne k in
+          let oc = F .crossing-occurs i j hi hj ne k in
+          let ui = under i (crossing i j) hi oc (on .0) hb hz in
+          let uj = under j (crossing i j) hj oc (on .1) hb hz in
+          ⊎-elim
+          (λ (e : s .last ≡ none). omega (arith, ap (bound key) e, bound-none key))
+          (λ (e : (p : Point) × (s .last ≡ some p)).
+          let p : Point = e .0 in
+          let bp : bound key (s .last) ≡ suc (key p) = ap (bound key) (e .1) ∙ bound-some key p in
+          pair-absurd p (crossing i j) hb hz
+          (neighbours C F p (crossing i j) (I .last-occurs p (e .1)) oc (omega arith)
+          (λ x y hx hy d h. quiet f x y hx hy d (h .0) (omega (arith, h)) (omega (arith, h)) (omega (arith, h)))
+          (s .active) i j
+          (λ x m. let o = I .active-out x m in ((o .0, omega arith, omega arith), omega (arith, no-max x (o .0) (o .2))))
+          (I .line p (e .1)) (I .active-in i hi (ui .0) (ui .1)) (I .active-in j hj (uj .0) (uj .1)) ne (on .0) (on .1)
+          (F .crossing-not-aligned i j hi hj ne k)
+          (F .crossing-not-aligned j i hj hi (λ d. ne (sym d)) (sym (F .test-sym i j hi hj ne) ∙ k))))
+          (which (s .last))
+
+      pub no-crossing : (q : Pair) → Pieces C q → kind C q ≡ crosses → bound key (s .last) ≤ key (at C q) → z ≤ key (at C q)
+      no-crossing q v k hb =
+          by-cases (decLt (key (at C q)) z)
+          (λ (h : key (at C q) < z). absurd (quiet (suc (key (at C q))) (q .0) (q .1) (omega arith) (v .1) (omega arith) k (omega arith) hb h))
+          (λ (h : ¬ (key (at C q) < z)). omega arith)
