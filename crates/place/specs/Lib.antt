@@ -1,0 +1,2 @@
+pub mod Binary64
+pub mod Place
