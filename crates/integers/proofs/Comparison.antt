@@ -20,15 +20,15 @@ module _ {A : Type 0} where
 
 module _ {A : Type 0} (l e g : A) {a b : ℤ} where
   pub three-less : a <ℤ b → three l e g a b ≡ l
-  three-less h = cond-yes (ltZ a b) l (cond (ltZ b a) g e) (h .lt)
+  three-less h = cond-yes (ltZ a b) _ _ (h .lt)
 
   pub three-greater : b <ℤ a → three l e g a b ≡ g
-  three-greater h = cond-no (ltZ a b) l (cond (ltZ b a) g e) (λ t. <-asym h (ltZ-yes t)) ∙ cond-yes (ltZ b a) g e (h .lt)
+  three-greater h = cond-no (ltZ a b) _ _ (λ t. <-asym h (ltZ-yes t)) ∙ cond-yes (ltZ b a) _ _ (h .lt)
 
   pub three-equal : a ≡ b → three l e g a b ≡ e
   three-equal x =
-      cond-no (ltZ a b) l (cond (ltZ b a) g e) (λ t. <ℤ-irrefl (subst (λ (z : ℤ). z <ℤ b) x (ltZ-yes t)))
-      ∙ cond-no (ltZ b a) g e (λ t. <ℤ-irrefl (subst (λ (z : ℤ). b <ℤ z) x (ltZ-yes t)))
+      cond-no (ltZ a b) _ _ (λ t. <ℤ-irrefl (subst (λ (z : ℤ). z <ℤ b) x (ltZ-yes t)))
+      ∙ cond-no (ltZ b a) _ _ (λ t. <ℤ-irrefl (subst (λ (z : ℤ). b <ℤ z) x (ltZ-yes t)))
 
   -- what the last branch of a comparison knows: neither is below the other
   pub three-neither : a ≤ℤ b → b ≤ℤ a → three l e g a b ≡ e

@@ -1,14 +1,14 @@
 -- A factor in an order or an equation: put in, cancelled, and the sign of a product with numbers below 0.
 -- `*-cancel-< a b c p h : a <ℤ b` from h : (a *ℤ c) <ℤ (b *ℤ c); the numbers are explicit, since a product does not show them.
 -- `twice` below is the example. Assumes nothing.
-use mathlib.Core.Path.{_≡_, refl, sym, ap, _∙_, subst}
-use mathlib.Core.List.{List, [], _∷_}
+use mathlib.Core.Path.{_≡_, sym, ap}
+use mathlib.Core.List.{[], _∷_}
 use mathlib.Core.Logic.{_⊎_, inl, inr}
-use lib.IntN.{ℤ, pos, negℤ, _+ℤ_, _-ℤ_, _*ℤ_}
-use lib.Signed.{_≤ℤ_, _<ℤ_, leZ-yes, ltZ-yes, <ℤ-≤ℤ-trans, <ℤ-irrefl, clashℤ}
-use Rattle.integers.proofs.Identity.{by-ring, terms}
+use lib.IntN.{ℤ, pos, _*ℤ_}
+use lib.Signed.{_≤ℤ_, _<ℤ_, leZ-yes, clashℤ}
+use Rattle.integers.proofs.Identity.{terms}
 use Rattle.integers.proofs.Signs.{≤-diff, <-diff, <→≤, n*n, p*p}
-use Rattle.integers.proofs.Order.{≤-cert, <-cert, Tri, less, same, more, tri, ≡→≤, ≮→≥, <→≢}
+use Rattle.integers.proofs.Order.{≤-cert, <-cert, Tri, less, same, more, tri, ≮→≥, <→≢}
 
 -- ---- put in
 pub *-mono-≤ : (a b : ℤ) {c : ℤ} → pos 0 ≤ℤ c → a ≤ℤ b → (a *ℤ c) ≤ℤ (b *ℤ c)

@@ -6,7 +6,7 @@ use mathlib.Core.List.{List, [], _∷_}
 use Prim.Native.Nat.{ℕ, zero, suc}
 use lib.Dec.{T}
 use lib.IntN.{ℤ, pos, negsuc, negℤ, _+ℤ_, _-ℤ_, _*ℤ_, -ℤ-+ℤ-cancel, +ℤ-idl}
-use Rattle.integers.proofs.Polynomial.{Expr, var, con, _:+_, _:-_, _:*_, neg, eval, look, norm, isZero, ring0}
+use Rattle.integers.proofs.Polynomial.{Expr, var, con, _:+_, _:*_, neg, eval, look, norm, isZero, ring0}
 
 pub record Read (ρ : List ℤ) (z : ℤ) : Type 0 where
   pub ex : Expr
@@ -30,9 +30,6 @@ r-add x y = record { ex = x .ex :+ y .ex; is = λ i. x .is i +ℤ y .is i }
 
 abbrev pub r-mul : {ρ : List ℤ} {a b : ℤ} → Read ρ a → Read ρ b → Read ρ (a *ℤ b)
 r-mul x y = record { ex = x .ex :* y .ex; is = λ i. x .is i *ℤ y .is i }
-
-abbrev pub r-sub : {ρ : List ℤ} {a b : ℤ} → Read ρ a → Read ρ b → Read ρ (a -ℤ b)
-r-sub x y = record { ex = x .ex :- y .ex; is = λ i. x .is i -ℤ y .is i }
 
 abbrev pub r-neg : {ρ : List ℤ} {a : ℤ} → Read ρ a → Read ρ (negℤ a)
 r-neg x = record { ex = neg (x .ex); is = λ i. negℤ (x .is i) }

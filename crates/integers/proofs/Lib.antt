@@ -5,6 +5,7 @@
 --   which of two is less; chains of orders         Order       tri, ≤-trans, <-trans, ≤-<-trans, ≤-antisym
 --   a factor put in or cancelled; zero products    Factors     *-mono-<, *-cancel-<, p/p, zero-product
 --   the order of fractions                         Ratios      ratio-<-trans and its kin
+--   a linear function: its sign, its zero          Lines       rises, falls, stays-above, root-up, root-down
 --   one of three answers, by order                 Comparison  three-less, three-neither, by-three
 --   from ℕ to ℤ and back                           Naturals    pos-≤, pos-<, ≤-pos, <-pos, natural
 --   a size, |z| ≤ A                                Sizes       small-of, small-lo, small-hi, small-up
@@ -20,6 +21,7 @@ pub mod Signs
 pub mod Order
 pub mod Factors
 pub mod Ratios
+pub mod Lines
 pub mod Linear
 pub mod Comparison
 pub mod Naturals
@@ -27,3 +29,4 @@ pub mod Sizes
 pub mod Machine
 pub mod Tests
 pub mod Ranges
+mod Examples

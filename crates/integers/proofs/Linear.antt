@@ -1,9 +1,9 @@
 -- Linear goals over ℤ by `omega`: each number is read as a difference of two naturals, `hi` less `lo`.
 -- With `let x′ = unknown x in` for each unknown: `≤-goal (search linear depth 60 fits 20000) (omega (arith, ≤-fact h (search linear depth 60 fits 20000)))`; `<` and `≡` likewise, of facts and of the goal.
 -- `doubled` below is the example. A product of two unknowns is four unknown products. Assumes nothing.
-use mathlib.Core.Path.{_≡_, refl, sym, ap, _∙_, subst}
-use mathlib.Core.List.{List, [], _∷_}
-use Prim.Native.Nat.{ℕ, zero, suc, _+_, _*_, _≤_, _<_}
+use mathlib.Core.Path.{_≡_, sym, ap, _∙_, subst}
+use mathlib.Core.List.{[], _∷_}
+use Prim.Native.Nat.{ℕ, suc, _+_, _*_, _≤_, _<_}
 use native.Mathlib.Nat.{le-antisymm}
 use native.Mathlib.Omega.{arith}
 use lib.Dec.{leb→le, le→leb, ltb→lt, lt→ltb}
@@ -45,9 +45,6 @@ l-add x y = record { hi = x .hi + y .hi; lo = x .lo + y .lo; is = (λ i. x .is i
 
 abbrev pub l-neg : {a : ℤ} → Difference a → Difference (negℤ a)
 l-neg x = record { hi = x .lo; lo = x .hi; is = ap negℤ (x .is) ∙ neg-is (x .hi) (x .lo) }
-
-abbrev pub l-sub : {a b : ℤ} → Difference a → Difference b → Difference (a -ℤ b)
-l-sub x y = l-add x (l-neg y)
 
 abbrev pub l-mul : {a b : ℤ} → Difference a → Difference b → Difference (a *ℤ b)
 l-mul x y = record { hi = x .hi * y .hi + x .lo * y .lo; lo = x .hi * y .lo + x .lo * y .hi; is = (λ i. x .is i *ℤ y .is i) ∙ mul-is (x .hi) (x .lo) (y .hi) (y .lo) }

@@ -1,11 +1,11 @@
 -- Between ℕ and ℤ: `pos-≤` and `pos-<` take an order of naturals to ℤ, `≤-pos` and `<-pos` take it back; so `omega` and the laws of Order.antt meet.
 -- `natural h : pos (natAbs z) ≡ z` for z at least 0; `pos` of sums and products computes.
 -- `index` below is the example. Assumes nothing.
-use mathlib.Core.Path.{_≡_, refl, sym, ap}
-use Prim.Native.Nat.{ℕ, zero, suc, _+_, _*_, _≤_, _<_}
+use mathlib.Core.Path.{_≡_, ap}
+use Prim.Native.Nat.{ℕ, _+_, _*_, _≤_, _<_}
 use native.Mathlib.Omega.{arith}
 use lib.Dec.{leb→le, le→leb, ltb→lt, lt→ltb}
-use lib.IntN.{ℤ, pos, negsuc, negℤ, natAbs, _+ℤ_, _*ℤ_}
+use lib.IntN.{ℤ, pos, natAbs}
 use lib.Signed.{_≤ℤ_, _<ℤ_, yes-nonNeg, pos-natAbs}
 
 pub pos-≤ : {m n : ℕ} → m ≤ n → pos m ≤ℤ pos n

@@ -2,17 +2,17 @@
 -- `<-cert ρ s (search terms depth 60 fits 20000) tt : a <ℤ b`, with s : pos 0 <ℤ e, where b - a is e by `by-ring` over the atoms ρ (`≤-cert` likewise).
 -- `tri a b` is `less h`, `same e` or `more h`. `between-squares` below is the example. Assumes nothing.
 use mathlib.Core.Path.{_≡_, refl, sym, ap, _∙_, subst}
-use mathlib.Core.Bool.{Bool, true, false, not}
+use mathlib.Core.Bool.{not}
 use mathlib.Core.List.{List, [], _∷_}
 use mathlib.Core.Logic.{_⊎_, inl, inr}
-use Prim.Native.Nat.{ℕ, zero, suc}
+use Prim.Native.Nat.{zero, suc}
 use native.Mathlib.Omega.{arith}
 use lib.Dec.{T, lt→ltb, nleb→lt}
 use lib.IntN.{ℤ, pos, negsuc, negℤ, _+ℤ_, _-ℤ_, _*ℤ_, +ℤ-idl, -ℤ-+ℤ-cancel}
-use lib.Signed.{leZ, ltZ, _≤ℤ_, _<ℤ_, ≤ℤ-refl, <ℤ-≤ℤ-trans, <ℤ-irrefl, clashℤ}
+use lib.Signed.{leZ, ltZ, _≤ℤ_, _<ℤ_, ≤ℤ-refl, <ℤ-≤ℤ-trans, clashℤ}
 use Rattle.integers.proofs.Polynomial.{norm, isZero}
 use Rattle.integers.proofs.Identity.{Read, by-ring, terms}
-use Rattle.integers.proofs.Signs.{≤-diff, diff-≤, <-diff, diff-<, <→≤, n+n, n+p, p+n, p*p, sq}
+use Rattle.integers.proofs.Signs.{≤-diff, diff-≤, <-diff, diff-<, <→≤, n+n, p+n, sq}
 
 -- ---- an inequality from a number of known sign that the difference of its sides is
 module _ (ρ : List ℤ) {a b s : ℤ} where

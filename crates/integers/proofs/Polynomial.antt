@@ -6,7 +6,7 @@ use mathlib.Core.Bool.{Bool, true, false, _&&_}
 use mathlib.Core.List.{List, [], _∷_}
 use Prim.Native.Nat.{ℕ, zero, suc}
 use lib.Dec.{T}
-use lib.IntN.{ℤ, pos, negsuc, negℤ, _+ℤ_, _-ℤ_, _*ℤ_, +ℤ-assoc, +ℤ-comm, +ℤ-idl, +ℤ-idr, negℤ-+ℤ, zero-*ℤ, *ℤ-zero, *ℤ-comm, -ℤ-+ℤ-cancel}
+use lib.IntN.{ℤ, pos, negsuc, negℤ, _+ℤ_, _-ℤ_, _*ℤ_, +ℤ-assoc, +ℤ-comm, +ℤ-idl, +ℤ-idr, zero-*ℤ, *ℤ-comm, -ℤ-+ℤ-cancel}
 use Rattle.integers.proofs.Ring.{+ℤ-swap, *ℤ-distribʳ, *ℤ-distribˡ, *ℤ-assoc, neg-*ℤ, *ℤ-idr}
 
 infixl 60 _:+_ _:-_
@@ -102,18 +102,15 @@ isZero (skip P) = isZero P
 isZero (hor P Q) = isZero P && isZero Q
 
 -- ---- each step keeps the value
+left : (a b c : ℤ) → a +ℤ (b +ℤ c) ≡ b +ℤ (a +ℤ c)
+left a b c = sym (+ℤ-assoc a b c) ∙ ap (λ (x : ℤ). x +ℤ c) (+ℤ-comm a b) ∙ +ℤ-assoc b a c
+
 addC-val : (ρ : List ℤ) (c : ℤ) (P : Pol) → val ρ (addC c P) ≡ c +ℤ val ρ P
 addC-val ρ c (cst d) = refl
 addC-val ρ c (skip P) = addC-val (rest ρ) c P
 addC-val ρ c (hor P Q) =
     ap (λ (x : ℤ). val ρ P *ℤ first ρ +ℤ x) (addC-val (rest ρ) c Q)
     ∙ left (val ρ P *ℤ first ρ) c (val (rest ρ) Q)
-  where
-    left : (a b c : ℤ) → a +ℤ (b +ℤ c) ≡ b +ℤ (a +ℤ c)
-    left a b c = sym (+ℤ-assoc a b c) ∙ ap (λ (x : ℤ). x +ℤ c) (+ℤ-comm a b) ∙ +ℤ-assoc b a c
-
-left : (a b c : ℤ) → a +ℤ (b +ℤ c) ≡ b +ℤ (a +ℤ c)
-left a b c = sym (+ℤ-assoc a b c) ∙ ap (λ (x : ℤ). x +ℤ c) (+ℤ-comm a b) ∙ +ℤ-assoc b a c
 
 add-val : (ρ : List ℤ) (P R : Pol) → val ρ (add P R) ≡ val ρ P +ℤ val ρ R
 add-val ρ (cst c) R = addC-val ρ c R

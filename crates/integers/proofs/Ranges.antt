@@ -1,12 +1,12 @@
 -- The range of a signed type as two orders, for what goes by `omega` (Linear.antt): from -2^(w-1) up to, but not at, 2^(w-1).
 -- `range-lo f`, `range-hi f` of an f : SFits w z, as `c .fits .z`; back by `range-of lo hi`.
 -- `narrow` below is the example. Assumes nothing.
-use Prim.Native.Nat.{ℕ, zero, suc, _^_, _<_, zero-le, suc-le-suc}
+use Prim.Native.Nat.{ℕ, zero, suc, _^_, _<_, suc-le-suc}
 use native.Mathlib.Nat.{le-of-suc-le-suc, not-suc-le-zero}
 use lib.Dec.{leb→le, le→leb, ltb→lt, lt→ltb}
 use lib.IntN.{ℤ, pos, negsuc, negℤ}
-use lib.Signed.{mag, _≤ℤ_, _<ℤ_, leZ-yes, ltZ-yes, <ℤ-≤ℤ-trans}
-use mir.Syntax.{Width, w16, w64}
+use lib.Signed.{mag, _≤ℤ_, _<ℤ_, leZ-yes, ltZ-yes}
+use mir.Syntax.{Width, w16}
 use mir.Val.{SFits, hbits}
 use Rattle.integers.proofs.Order.{≤-trans, <-trans}
 

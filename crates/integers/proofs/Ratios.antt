@@ -1,11 +1,11 @@
 -- The order of fractions, cross-multiplied: a/b < c/d is (a *ℤ d) <ℤ (c *ℤ b), with b and d above 0.
 -- `ratio-<-trans a b c d e f pb pd pf h k : (a *ℤ f) <ℤ (e *ℤ b)`; only the middle denominator has to be known above 0 for a cancel, the outer two for their sign.
 -- `half-two-thirds` below is the example. Assumes nothing.
-use mathlib.Core.Path.{_≡_, refl, sym, _∙_}
+use mathlib.Core.Path.{_≡_, sym}
 use mathlib.Core.List.{[], _∷_}
-use lib.IntN.{ℤ, pos, _+ℤ_, _-ℤ_, _*ℤ_}
+use lib.IntN.{ℤ, pos, _*ℤ_}
 use lib.Signed.{_≤ℤ_, _<ℤ_, ltZ-yes}
-use Rattle.integers.proofs.Identity.{by-ring, terms}
+use Rattle.integers.proofs.Identity.{terms}
 use Rattle.integers.proofs.Signs.{≤-diff, <-diff, <→≤, n+n, n+p, p+n, p+p, n*n, p*p}
 use Rattle.integers.proofs.Order.{≤-cert, <-cert, ≡→≤, ≤-antisym}
 use Rattle.integers.proofs.Factors.{*-cancel-<, *-cancel-≤}

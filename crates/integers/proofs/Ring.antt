@@ -2,8 +2,8 @@
 -- Callers want `by-ring` of Identity.antt instead; a law alone is called by its name, as `*ℤ-assoc a b c`.
 -- Assumes nothing.
 use mathlib.Core.Path.{_≡_, refl, sym, ap, _∙_}
-use Prim.Native.Nat.{ℕ, zero, suc, _*_}
-use lib.IntN.{ℤ, pos, negsuc, negℤ, sucℤ, predℤ, _+ℤ_, _-ℤ_, _*ℤ_, +ℤ-assoc, +ℤ-comm, +ℤ-idl, +ℤ-idr, negℤ-negℤ, sucℤ-*ℤ, predℤ-*ℤ, zero-*ℤ, *ℤ-comm, *ℤ-one, one, sucℤ-+ℤ, predℤ-+ℤ}
+use Prim.Native.Nat.{zero, suc, _*_}
+use lib.IntN.{ℤ, pos, negsuc, negℤ, sucℤ, predℤ, _+ℤ_, _-ℤ_, _*ℤ_, +ℤ-assoc, +ℤ-comm, +ℤ-idl, negℤ-negℤ, sucℤ-*ℤ, predℤ-*ℤ, zero-*ℤ, *ℤ-comm, *ℤ-one, one, sucℤ-+ℤ, predℤ-+ℤ}
 
 -- (a + b) + (c + d) = (a + c) + (b + d)
 pub +ℤ-swap : (a b c d : ℤ) → (a +ℤ b) +ℤ (c +ℤ d) ≡ (a +ℤ c) +ℤ (b +ℤ d)
@@ -41,9 +41,6 @@ neg-*ℤ (pos (suc n)) (pos m) = refl
 neg-*ℤ (pos (suc n)) (negsuc m) = sym (negℤ-negℤ (pos (suc n * suc m)))
 neg-*ℤ (negsuc n) (pos m) = sym (negℤ-negℤ (pos (suc n * m)))
 neg-*ℤ (negsuc n) (negsuc m) = refl
-
-pub *ℤ-neg : (a c : ℤ) → a *ℤ negℤ c ≡ negℤ (a *ℤ c)
-*ℤ-neg a c = *ℤ-comm a (negℤ c) ∙ neg-*ℤ c a ∙ ap negℤ (*ℤ-comm c a)
 
 pub *ℤ-assoc : (a b c : ℤ) → (a *ℤ b) *ℤ c ≡ a *ℤ (b *ℤ c)
 *ℤ-assoc a b c = updown (λ (a : ℤ). (a *ℤ b) *ℤ c ≡ a *ℤ (b *ℤ c))

@@ -5,7 +5,7 @@ use mathlib.Core.Path.{_≡_, sym, ap, _∙_, subst}
 use mathlib.Core.Bool.{Bool, true, false, not, _&&_}
 use Prim.Native.Nat.{ℕ, _^_, _<_}
 use lib.Dec.{T, T-not, eqb, eqb→eq, eqb-refl}
-use lib.IntN.{ℤ, pos}
+use lib.IntN.{ℤ}
 use lib.Signed.{mag, ltZ, leZ, _<ℤ_, _≤ℤ_, ltZ-yes, leZ-yes, ltZ-no}
 use mir.Syntax.{Width, w64}
 use mir.Val.{Fits, SFits, toZ, ofZ, hbits}
@@ -47,12 +47,6 @@ m-yes e x g = x .yes g (subst T (sym e) tt)
 
 pub m-no : {t : Bool} → t ≡ false → (x : Test t) → T (x .fine) → x .No
 m-no e x g = x .no g (subst (λ (t : Bool). T (not t)) (sym e) tt)
-
-pub holds : {t : Bool} → t ≡ true → T t
-holds e = subst T (sym e) tt
-
-pub fails : {t : Bool} → t ≡ false → T (not t)
-fails e = subst (λ (t : Bool). T (not t)) (sym e) tt
 
 -- a branch on `==` leaves an equation of bits, or its denial
 pub m-same : (w : Width) {m n : ℕ} → m ≡ n → (x : Mach (toZ w m)) (y : Mach (toZ w n)) → T (x .good && y .good) → x .plain ≡ y .plain
