@@ -12,7 +12,7 @@
 --   code: it fits, it is the formula, its bound    Machine     m-fits, m-eq, m-bound, m-carry
 --   code: what a branch says                       Tests       m-yes, m-no; the sets `sized` and `ranged`
 --   code: a type's range as two orders             Ranges      range-lo, range-hi, range-of
---   code: a cast to an unsigned type               Machine     m-cast
+--   code: casts between signed and unsigned        Unsigned    m-under, m-cast
 -- `Ring` and `Polynomial` are what `Identity` stands on.
 pub mod Ring
 pub mod Polynomial
@@ -28,5 +28,6 @@ pub mod Naturals
 pub mod Sizes
 pub mod Machine
 pub mod Tests
+pub mod Unsigned
 pub mod Ranges
 mod Examples

@@ -4,14 +4,14 @@
 use mathlib.Core.Path.{_≡_, refl, sym, ap, _∙_, subst}
 use mathlib.Core.Bool.{Bool, true, false, _&&_}
 use Prim.Native.Nat.{ℕ, suc, _+_, _*_, _^_, _≤_, _<_}
-use native.Mathlib.Nat.{le-trans, le-refl, le-suc, le-of-eq, le-of-lt, mul-le-mul, lt-of-le-of-lt, lt-of-lt-of-le}
+use native.Mathlib.Nat.{le-trans, le-refl, le-suc, le-of-eq, mul-le-mul, lt-of-le-of-lt}
 use native.Mathlib.Omega.{arith}
 use lib.Dec.{T, leb, leb→le, ltb, ltb→lt}
 use lib.IntN.{ℤ, pos, negsuc, negℤ, natAbs, _+ℤ_, _-ℤ_, _*ℤ_}
-use lib.Signed.{mag, natAbs-le, nonNeg, yes-nonNeg, _≤ℤ_}
+use lib.Signed.{mag, natAbs-le}
 use mir.Syntax.{Width, w64}
-use mir.Val.{Fits, SFits, toZ, ofZ, bits, hbits}
-use mir.ValLaws.{toZ-ofZ, toZ-pos}
+use mir.Val.{SFits, toZ, ofZ, hbits}
+use mir.ValLaws.{toZ-ofZ}
 use Rattle.integers.specs.Size.{Small}
 use Rattle.integers.proofs.Sizes.{abs-+, abs-neg, abs-*}
 
@@ -98,19 +98,6 @@ m-kept {w} {z} h = record { plain = z; top = 2 ^ hbits w; good = true; is = λ t
 abbrev pub m-result : (w : Width) (z : ℤ) → mag z < 2 ^ hbits w → Mach (toZ w (ofZ w z))
 m-result w z h = m-kept {w = w} {z = z} (record { sfits = h })
 
--- an unsigned number, read as a signed one: of which a bound is known, or only its own type's range
-abbrev pub m-under : (w : Width) {n A : ℕ} → n < A → Mach (toZ w n)
-m-under w {n} {A} h = record {
-  plain = pos n;
-  top = A;
-  good = leb A (2 ^ hbits w);
-  is = λ t. toZ-pos w n (lt-of-lt-of-le h (leb→le A (2 ^ hbits w) t));
-  ok = λ t. le-of-lt h;
-}
-
-abbrev pub m-unsigned : (w : Width) {v : Width} {n : ℕ} → Fits v n → Mach (toZ w n)
-m-unsigned w h = m-under w (h .fits)
-
 -- of which an equation is known, as a call's result (`c .f .ensures`); in no set: `search (sized, m-is) ..`
 abbrev pub m-is : {r z : ℤ} → r ≡ z → Mach z → Mach r
 m-is e x = record { plain = x .plain; top = x .top; good = x .good; is = λ t. e ∙ x .is t; ok = x .ok }
@@ -121,14 +108,6 @@ m-fits {w} x t = in-range w x t
 
 pub m-eq : {z : ℤ} (x : Mach z) → T (x .good) → z ≡ x .plain
 m-eq x t = x .is t
-
--- what a cast to an unsigned type asks, of a z at least 0. The goal does not show z, so it is written out
-pub m-cast : (w : Width) (z : ℤ) (x : Mach z) → T (x .good && ltb (x .top) (2 ^ bits w)) → pos 0 ≤ℤ x .plain → T (nonNeg z) × Fits w (natAbs z)
-m-cast w z x t h =
-    let g = and-l (x .good) (ltb (x .top) (2 ^ bits w)) t in
-    let b = and-r (x .good) (ltb (x .top) (2 ^ bits w)) t in
-    let e = sym (x .is g) in
-    (subst (λ (y : ℤ). T (nonNeg y)) e (yes-nonNeg h), subst (λ (y : ℤ). Fits w (natAbs y)) e (record { fits = lt-of-le-of-lt (x .ok g) (ltb→lt (x .top) (2 ^ bits w) b) }))
 
 -- what is to be shown of z, of the plain number
 pub m-carry : (P : ℤ → Type 0) {z : ℤ} (x : Mach z) → T (x .good) → P (x .plain) → P z

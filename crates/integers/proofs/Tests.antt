@@ -12,7 +12,8 @@ use mir.Val.{Fits, SFits, toZ, ofZ, hbits}
 use mir.ValLaws.{toZ-ofZ}
 use mir.Facts.{toZ-inj}
 use Rattle.integers.proofs.Order.{leZ-no}
-use Rattle.integers.proofs.Machine.{Mach, and-l, and-r, m-small, m-kept, m-result, m-unsigned, steps}
+use Rattle.integers.proofs.Machine.{Mach, and-l, and-r, m-small, m-kept, m-result, steps}
+use Rattle.integers.proofs.Unsigned.{m-unsigned}
 
 pub record Test (t : Bool) : Type 1 where
   pub fine : Bool
@@ -42,11 +43,18 @@ t-le x y = record {
   no = λ g t. carry x y g (λ (u v : ℤ). v <ℤ u) (leZ-no t);
 }
 
+-- a test's answer as `T`, for laws of the kit
+pub holds : {t : Bool} → t ≡ true → T t
+holds e = subst T (sym e) tt
+
+pub fails : {t : Bool} → t ≡ false → T (not t)
+fails e = subst (λ (t : Bool). T (not t)) (sym e) tt
+
 pub m-yes : {t : Bool} → t ≡ true → (x : Test t) → T (x .fine) → x .Yes
-m-yes e x g = x .yes g (subst T (sym e) tt)
+m-yes e x g = x .yes g (holds e)
 
 pub m-no : {t : Bool} → t ≡ false → (x : Test t) → T (x .fine) → x .No
-m-no e x g = x .no g (subst (λ (t : Bool). T (not t)) (sym e) tt)
+m-no e x g = x .no g (fails e)
 
 -- a branch on `==` leaves an equation of bits, or its denial
 pub m-same : (w : Width) {m n : ℕ} → m ≡ n → (x : Mach (toZ w m)) (y : Mach (toZ w n)) → T (x .good && y .good) → x .plain ≡ y .plain

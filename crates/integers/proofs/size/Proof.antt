@@ -16,7 +16,8 @@ use Rattle.integers.proofs.Order.{neg-≤}
 use Rattle.integers.proofs.Naturals.{pos-injective, natural}
 use Rattle.integers.proofs.Sizes.{abs-neg}
 use Rattle.integers.proofs.Linear.{linear, unknown, ≤-fact, <-fact, ≤-goal, <-goal}
-use Rattle.integers.proofs.Machine.{m-eq, m-carry, m-is, m-range, m-cast}
+use Rattle.integers.proofs.Machine.{m-eq, m-carry, m-is, m-range}
+use Rattle.integers.proofs.Unsigned.{m-cast}
 use Rattle.integers.proofs.Tests.{ranged, m-yes, m-no}
 use Rattle.integers.proofs.Ranges.{range-lo, range-of}
 use Rattle.integers.proofs.size.Statement.{statement}
