@@ -1,18 +1,20 @@
 -- The first common point of a pair that meets: it lies on both pieces, and no other such point comes before it.
 use mathlib.Core.Path.{_≡_, refl, sym, ap, _∙_}
 use mathlib.Core.Logic.{_⊎_, inl, inr, ⊎-elim, _≢_}
-use mathlib.Core.Bool.{Bool, true, false, cond}
+use mathlib.Core.Bool.{Bool, true, false, cond, _&&_}
+use mathlib.Core.List.{List·Memᴰ as In}
 use Prim.Native.Nat.{ℕ, _≤_, _<_}
 use native.Mathlib.Omega.{arith}
 use Rattle.sweep.specs.Lists.{Pair, lesser-first}
-use Rattle.sweep.specs.Chart.{Kind, nothing, crosses, overlaps, Chart, meets, kind, at}
-use Rattle.sweep.specs.Sought.{later, first-by, first}
+use Rattle.sweep.specs.Chart.{Kind, nothing, crosses, overlaps, Chart, meets, same, kind, at}
+use Rattle.sweep.specs.Sought.{all, later, first-by, first, pairs-at}
 use Rattle.sweep.specs.Geometry.{Occurs}
 use Rattle.sweep.specs.Demand.{Pieces}
-use Rattle.sweep.proofs.Tests.{ask, clash}
+use Rattle.sweep.proofs.Tests.{ask, clash, and-both}
+use Rattle.sweep.proofs.Lists.{keep-in, keep-out}
 use Rattle.sweep.proofs.Pairs.{lesser-two, lesser-up}
-use Rattle.sweep.proofs.Occurring.{min-occurs, at-occurs}
-use Rattle.sweep.proofs.Ranked.{Ranked, less-true, less-false}
+use Rattle.sweep.proofs.Occurring.{all-in, all-out, min-occurs, at-occurs}
+use Rattle.sweep.proofs.Ranked.{Ranked, less-true, less-false, same-yes, same-true}
 
 pub kind-cases : (k : Kind) → (k ≡ nothing) ⊎ ((k ≡ crosses) ⊎ (k ≡ overlaps))
 kind-cases nothing = inl refl
@@ -114,3 +116,18 @@ module _ (C : Chart) where
         (λ (g : first C q ≡ min (q .1)). omega (arith, ap key g, F .on-range (q .1) p (v .1) o b))
         (first-min q v k))
         (meets-two (kind C q) e)
+
+    -- the pairs whose first common point is p
+    pub pairs-at-in : (p : Point) → Occurs C p → (q : Pair) → Pieces C q → meets (kind C q) ≡ true → key (first C q) ≡ key p → In q (pairs-at C p)
+    unfolding pairs-at
+    pairs-at-in p o q v e d =
+        keep-in (λ q. meets (kind C q) && same C (first C q) p) (all-in C q v) (rw (e, same-yes C F (first C q) p (first-occurs q v e) o d))
+
+    pub pairs-at-out : (p : Point) → Occurs C p → (q : Pair) → In q (pairs-at C p) → Pieces C q × (meets (kind C q) ≡ true) × (first C q ≡ p)
+    unfolding pairs-at
+    pairs-at-out p o q m =
+        let r = keep-out (λ q. meets (kind C q) && same C (first C q) p) (all C) m in
+        let v = all-out C (r .0) in
+        let e = and-both (meets (kind C q)) (same C (first C q) p) (r .1) in
+        let f = first-occurs q v (e .0) in
+        (v, e .0, F .key-inj (first C q) p f o (same-true C F (first C q) p f o (e .1)))

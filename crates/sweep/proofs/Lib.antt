@@ -15,3 +15,5 @@ pub mod Examined
 pub mod Stepped
 pub mod Ascending
 pub mod Theorem
+pub mod Runs
+pub mod Promises

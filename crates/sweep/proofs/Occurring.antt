@@ -16,7 +16,7 @@ use Rattle.sweep.proofs.Tests.{clash}
 use Rattle.sweep.proofs.Lists.{keep-in, keep-out}
 use Rattle.sweep.proofs.Pairs.{Sooner, upto-in, upto-out, upto-up, pairs-in, pairs-out, pairs-sooner, pairs-once}
 
-is-crossing-true : (k : Kind) → is-crossing k ≡ true → k ≡ crosses
+pub is-crossing-true : (k : Kind) → is-crossing k ≡ true → k ≡ crosses
 unfolding is-crossing
 is-crossing-true nothing e = clash e refl
 is-crossing-true crosses e = refl

@@ -17,11 +17,11 @@ use Rattle.sweep.specs.Sought.{all, first, pairs-at}
 use Rattle.sweep.specs.Geometry.{Occurs}
 use Rattle.sweep.specs.Demand.{Pieces}
 use Rattle.sweep.proofs.Tests.{ask, clash, and-both, not-true, same-test}
-use Rattle.sweep.proofs.Lists.{keep-yes, keep-no, keep-in, keep-out, keep-keep, keep-same, pairwise-keep}
+use Rattle.sweep.proofs.Lists.{keep-yes, keep-no, keep-out, keep-keep, keep-same, pairwise-keep}
 use Rattle.sweep.proofs.Pairs.{both, pairs-keep, among-in, among-out, among-no, among-snoc}
-use Rattle.sweep.proofs.Occurring.{all-in, all-out, all-once, at-occurs}
+use Rattle.sweep.proofs.Occurring.{all-out, all-once, at-occurs}
 use Rattle.sweep.proofs.Ranked.{Ranked, same-yes, same-true, same-false}
-use Rattle.sweep.proofs.First.{first-on, first-occurs, first-least}
+use Rattle.sweep.proofs.First.{first-on, first-occurs, first-least, pairs-at-in, pairs-at-out}
 use Rattle.sweep.proofs.Between.{bound, Good, Inv}
 use Rattle.sweep.proofs.Next.{next-occurs, next-new, no-wait, no-first, part-on, on-part}
 
@@ -126,18 +126,6 @@ module _ (C : Chart) where
           ∙ ap (λ (z : List Pair). s .marks .listed ++ z)
           (keep-same (λ q. part q && unlisted (s .marks) q) (λ q. meets (kind C q) && same C (first C q) p) (all C) (λ q m. new-is q (all-out C m)))
 
-      at-in : (q : Pair) → Pieces C q → meets (kind C q) ≡ true → key (first C q) ≡ key p → In q (pairs-at C p)
-      unfolding pairs-at
-      at-in q v e d = keep-in (λ q. meets (kind C q) && same C (first C q) p) (all-in C q v) (rw (e, same-yes C F (first C q) p (first-occurs C F q v e) op d))
-
-      at-out : (q : Pair) → In q (pairs-at C p) → Pieces C q × (meets (kind C q) ≡ true) × (key (first C q) < suc (key p))
-      unfolding pairs-at
-      at-out q m =
-          let r = keep-out (λ q. meets (kind C q) && same C (first C q) p) (all C) m in
-          let v = all-out C (r .0) in
-          let e = and-both (meets (kind C q)) (same C (first C q) p) (r .1) in
-          (v, e .0, omega (arith, same-true C F (first C q) p (first-occurs C F q v (e .0)) op (e .1)))
-
       pub reported-good : Good C F (suc (key p)) (reported C s p)
       reported-good = record { met = met; full = full; ahead = ahead }
         where
@@ -145,7 +133,7 @@ module _ (C : Chart) where
           met q m =
               ⊎-elim
               (λ (k : In q (s .marks .listed)). let r = I .good .met q k in let u = next-new C F s I p hp in (r .0, r .1, omega arith))
-              (λ (k : In q (pairs-at C p)). at-out q k)
+              (λ (k : In q (pairs-at C p)). let r = pairs-at-out C F p op q k in (r .0, r .1, omega (arith, ap key (r .2))))
               (List·Memᴰ·append-cases (s .marks .listed) (rw reported-listed at m))
 
           full : (q : Pair) → Pieces C q → meets (kind C q) ≡ true → key (first C q) < suc (key p) → In q ((reported C s p) .listed)
@@ -154,7 +142,7 @@ module _ (C : Chart) where
               (by-cases (decLt (key (first C q)) (bound key (s .last)))
               (λ (k : key (first C q) < bound key (s .last)). Memᴰ·append-left {s = s .marks .listed} (pairs-at C p) (I .good .full q v e k))
               (λ (k : ¬ (key (first C q) < bound key (s .last))).
-              Memᴰ·append-right (s .marks .listed) (at-in q v e (omega (arith, no-first C F s I p hp q v e (omega arith))))))
+              Memᴰ·append-right (s .marks .listed) (pairs-at-in C F p op q v e (omega (arith, no-first C F s I p hp q v e (omega arith))))))
 
           ahead : (q : Pair) → In q ((reported C s p) .waiting) → Pieces C q × (kind C q ≡ crosses) × (suc (key p) ≤ key (at C q))
           ahead q m =

@@ -23,7 +23,7 @@ use Rattle.sweep.proofs.Tests.{ltb-no}
 use Rattle.sweep.proofs.Lists.{keep-none}
 use Rattle.sweep.proofs.Occurring.{End, Crossing, occurs-out}
 use Rattle.sweep.proofs.Ranked.{Ranked, ranked}
-use Rattle.sweep.proofs.Between.{bound, Inv, no-crossing}
+use Rattle.sweep.proofs.Between.{which, bound, Inv, no-crossing}
 use Rattle.sweep.proofs.Next.{least-none, queue-min, queue-max, queue-wait, next-occurs, next-new, no-min, no-max, no-wait}
 use Rattle.sweep.proofs.Stepped.{step-inv, step-listed}
 use Rattle.sweep.proofs.Ascending.{points-in, points-out, points-up, below, below-take, below-more, below-all}
@@ -147,3 +147,24 @@ module _ (C : Chart) where
     pub sweeps : SweepsAlways C
     unfolding answer answer-of
     sweeps m = record { visits = run-visits m; lists = (kept-run m) .listed-is ∙ ap (pairs-along C) (run-visits m) }
+
+    -- the points visited are those up to the last one
+    pub visited-below : (m : ℕ) → visited C m ≡ below C F (bound key ((run C m) .last)) (points C)
+    visited-below m = (kept-run m) .visited-is
+
+    pub last-occurs : (m : ℕ) (p : Point) → (run C m) .last ≡ some p → Occurs C p
+    last-occurs m = (kept-run m) .inv .last-occurs
+
+    -- the queue is empty exactly when all points are visited
+    pub none-all : (m : ℕ) → next C (run C m) ≡ none → visited C m ≡ points C
+    none-all m e = kept-end (run C m) (visited C m) (kept-run m) e
+
+    pub all-none : (m : ℕ) → length (points C) ≤ m → next C (run C m) ≡ none
+    all-none m h =
+        ⊎-elim
+        (λ (e : next C (run C m) ≡ none). e)
+        (λ (e : (p : Point) × (next C (run C m) ≡ some p)).
+        let v : visited C (suc m) ≡ visited C m ++ (e .0 ∷ []) = unfold visited taken in ap (λ (o : Option Point). visited C m ++ taken C o) (e .1) in
+        absurd
+        (omega (arith, ap length (sym v ∙ run-visits (suc m)), length-append (visited C m) (e .0 ∷ []), ap length (run-visits m), length-take m (points C), length-take (suc m) (points C))))
+        (which (next C (run C m)))

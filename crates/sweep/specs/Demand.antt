@@ -7,7 +7,7 @@ use mathlib.Core.List.{List, _++_}
 use mathlib.Core.List.{List·Memᴰ as In}
 use Prim.Native.Nat.{ℕ, _+_, _*_, _≤_, _<_, min}
 use lib.ListN.{length, take}
-use Rattle.sweep.specs.Lists.{Pair, Pairwise}
+use Rattle.sweep.specs.Lists.{Pair, last-of, Pairwise}
 use Rattle.sweep.specs.Chart.{Chart, meets, kind}
 use Rattle.sweep.specs.Run.{run, onwards, visited, answer}
 use Rattle.sweep.specs.Sought.{first, points, pairs-along, meeting}
@@ -62,6 +62,10 @@ module _ (C : Chart) where
   abbrev pub CountsSteps : Type 0
   CountsSteps = (budget : ℕ) → (answer C budget) .steps ≡ min budget (length (points C))
 
+  -- "the last point, or none after zero steps"
+  abbrev pub LastVisited : Type 0
+  LastVisited = (budget : ℕ) → (answer C budget) .last ≡ last-of (visited C budget)
+
   -- "whether the queue is empty"
   abbrev pub EndsExactly : Type 0
   EndsExactly = (budget : ℕ) → ((answer C budget) .ended ≡ true) ↔ (length (points C) ≤ budget)
@@ -81,3 +85,18 @@ module _ (C : Chart) where
   -- "a smaller budget's list is the beginning of a larger one's"
   abbrev pub ListsOn : Type 0
   ListsOn = (a b : ℕ) → a ≤ b → (more : List Pair) × ((answer C b) .listed ≡ (answer C a) .listed ++ more)
+
+  -- all of it, of one chart
+  pub record Promises : Type 0 where
+    pub sweeps : SweepsAlways
+    pub lists-exactly : ListsExactly
+    pub lists-once : ListsOnce
+    pub lists-in-order : ListsInOrder
+    pub lists-all : ListsAll
+    pub lists-on : ListsOn
+    pub visits-in-order : VisitsInOrder
+    pub last-visited : LastVisited
+    pub counts-steps : CountsSteps
+    pub steps-bounded : StepsBounded
+    pub ends-exactly : EndsExactly
+    pub runs-on : RunsOn

@@ -2,6 +2,7 @@
 use mathlib.Core.Bool.{Bool, true, false, cond, _&&_, _||_}
 use mathlib.Core.List.{List, [], _∷_, _++_, map}
 use mathlib.Core.List.{List·Memᴰ as In}
+use mathlib.Core.Option.{Option, none, some}
 use Prim.Native.Nat.{ℕ, zero, suc}
 use lib.Dec.{ltb, eqb}
 
@@ -33,6 +34,11 @@ module _ {A : Type 0} where
 
   unfoldable pub sort : (A → A → Bool) → List A → List A
   sort before l = sort-into before [] l
+
+  unfoldable pub last-of : List A → Option A
+  last-of [] = none
+  last-of (x ∷ []) = some x
+  last-of (x ∷ y ∷ l) = last-of (y ∷ l)
 
   -- every two members, the earlier and the later, stand in a relation
   abbrev pub Pairwise : (A → A → Type 0) → List A → Type 0
