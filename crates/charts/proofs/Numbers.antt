@@ -1,6 +1,6 @@
 -- Tests on signed numbers and on what they answer, for `fault_of` and the functions below it.
 -- A signed argument comes back from its bits: `kept h : toZ w32 (ofZ w32 z) ≡ z`. Assumes nothing.
-use mathlib.Core.Path.{_≡_, refl, sym, ap, _∙_}
+use mathlib.Core.Path.{_≡_, refl, sym, _∙_}
 use mathlib.Core.Bool.{Bool, true, false, _&&_, _||_}
 use Prim.Native.Nat.{_<_, _^_}
 use lib.Dec.{eqb}

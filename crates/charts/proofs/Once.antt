@@ -1,5 +1,5 @@
 -- Each public function's contract allows one result.
-use mathlib.Core.Path.{_≡_, sym, _∙_}
+use mathlib.Core.Path.{sym, _∙_}
 use Rattle.charts.specs.Outcome.{OneResult}
 use Rattle.charts.proofs.verdict_of.Kinds as verdict-of-kinds
 use Rattle.charts.proofs.verdict_of.Reads as verdict-of

@@ -1,11 +1,11 @@
 -- The tests of `faultOf` say what the rows of the table say: the fault given to a piece is the one that is due.
 -- Assumes nothing.
-use mathlib.Core.Path.{_≡_, refl, sym, ap, ap₂, _∙_, subst}
-use mathlib.Core.Bool.{Bool, true, false, not, cond, _&&_, _||_}
-use mathlib.Core.Logic.{_⊎_, inl, inr, ⊎-elim, _↔_}
+use mathlib.Core.Path.{_≡_, refl, sym, ap, subst}
+use mathlib.Core.Bool.{Bool, true, false, cond, _&&_, _||_}
+use mathlib.Core.Logic.{_⊎_, inl, inr, ⊎-elim}
 use Prim.Native.Nat.{ℕ}
 use borrow.Author.Tests.{eqb-true, eqb-false}
-use lib.Dec.{T, eqb, T-not}
+use lib.Dec.{T, T-not}
 use lib.IntN.{ℤ, pos, negsuc, negℤ, pos-ne-negsuc}
 use lib.Signed.{ltZ, _<ℤ_, ltZ-yes}
 use Rattle.integers.proofs.Tests.{holds, fails}
@@ -43,7 +43,7 @@ says-eq (pos a) (negsuc b) = record { yes = λ e. absurd (subst T (sym e) tt); n
 says-eq (negsuc a) (pos b) = record { yes = λ e. absurd (subst T (sym e) tt); no = λ _ h. pos-ne-negsuc b a (sym h) }
 says-eq (negsuc a) (negsuc b) = record { yes = λ e. ap negsuc (eqb-true a b e); no = λ e h. eqb-false a b e (cc) }
 
-says-outside : (low high v : ℤ) → Says (outside low high v) (Outside low high v)
+pub says-outside : (low high v : ℤ) → Says (outside low high v) (Outside low high v)
 unfolding outside
 says-outside low high v = says-or (says-lt v low) (says-lt high v)
 

@@ -9,6 +9,7 @@ use lib.ListN.{length}
 use lib.Signed.{_<ℤ_}
 use Rattle.charts.specs.Fault.{range, faultOf}
 use Rattle.charts.specs.Chart.{most, numberAt, verdictOf}
+use Rattle.charts.specs.Answer.{room, listingOf}
 use Rattle.charts.specs.declared.Verdict.{Verdict}
 use Rattle.charts.specs.declared.Verdict.the-variants.{Accepted, Refused}
 
@@ -61,5 +62,15 @@ module _ (list : List ℤ) where
     piece : (n : ℕ) → length list ≡ 5 * n → n ≤ most → (i k : ℕ) → i < n → Sound i → FaultOf i (suc k) → Due (Refused (suc k) i)
     done : (n : ℕ) → length list ≡ 5 * n → n ≤ most → Sound n → Due (Accepted n)
 
+  -- "then 8": the verdict that is due where the pairs go into so many lent bytes
+  pub data ListingDue (lent : ℕ) : Verdict → Type 0 where
+    refused : (k place : ℕ) → Due (Refused k place) → ListingDue lent (Refused k place)
+    -- "8: lent room too small"
+    eight : (n : ℕ) → Due (Accepted n) → lent < room n → ListingDue lent (Refused 8 0)
+    listed : (n : ℕ) → Due (Accepted n) → room n ≤ lent → ListingDue lent (Accepted n)
+
 abbrev pub RefusesExactly : Type 0
 RefusesExactly = (list : List ℤ) (v : Verdict) → (verdictOf list ≡ v) ↔ Due list v
+
+abbrev pub ListingRefusesExactly : Type 0
+ListingRefusesExactly = (list : List ℤ) (lent : ℕ) (v : Verdict) → (listingOf list lent ≡ v) ↔ ListingDue list lent v

@@ -1,7 +1,9 @@
 ghost use mathlib.Core.Path.{_≡_};
-ghost use Prim.Native.Nat.{_<_};
+ghost use Prim.Native.Nat.{_<_, _≤_};
 ghost use Rattle.charts.specs.Fault.{outside, offRange, eqZ, sameEnds, faultOf};
-ghost use Rattle.charts.specs.Chart.{numberAt, faultAt, verdictOf};
+ghost use Rattle.charts.specs.Chart.{most, numberAt, faultAt, verdictOf};
+ghost use Rattle.charts.specs.Piece.{kindOf, coordinateOf};
+ghost use Rattle.charts.specs.Answer.{doneWith, refusedWith, room, listingOf};
 
 // A chart has at most so many pieces.
 pub const MOST: usize = 64;
@@ -14,6 +16,15 @@ pub enum Verdict {
     Accepted(usize),
     // the number and the place of its first fault
     Refused(u8, usize),
+}
+
+// What the reader of a file and the calls that list pairs return.
+pub struct Answer {
+    // 0 where the call is done, else the refusal
+    pub number: u8,
+    pub place: usize,
+    // of pieces read or of pairs listed, 0 where refused
+    pub count: usize,
 }
 
 fn is_outside(low: i32, high: i32, v: i32) -> bool
@@ -102,4 +113,68 @@ pub fn verdict_of(list: &[i32]) -> Verdict
         }
     }
     Verdict::Accepted(n)
+}
+
+pub fn done(count: usize) -> Answer
+    ensures { λ r. ⌜ r ≡ doneWith count ⌝ }
+{
+    Answer {
+        number: 0,
+        place: 0,
+        count,
+    }
+}
+
+pub fn refused(number: u8, place: usize) -> Answer
+    ensures { λ r. ⌜ r ≡ refusedWith number place ⌝ }
+{
+    Answer {
+        number,
+        place,
+        count: 0,
+    }
+}
+
+fn room_of(n: usize) -> usize
+    requires { ⌜ n ≤ most ⌝ }
+    ensures { λ r. ⌜ r ≡ room n ⌝ }
+{
+    if n == 0 {
+        return 0;
+    }
+    n * (n - 1)
+}
+
+// The verdict on a list whose pairs go into `lent` bytes.
+pub fn listing_of(list: &[i32], lent: usize) -> Verdict
+    ensures { λ r. ⌜ r ≡ listingOf (now (list .entry)) lent ⌝ }
+{
+    match verdict_of(list) {
+        Verdict::Refused(number, place) => Verdict::Refused(number, place),
+        Verdict::Accepted(n) => {
+            if lent < room_of(n) {
+                Verdict::Refused(8, 0)
+            } else {
+                Verdict::Accepted(n)
+            }
+        }
+    }
+}
+
+fn kind_of(v: i32) -> u8
+    ensures { λ r. ⌜ r ≡ kindOf v ⌝ }
+{
+    if is_outside(0, 3, v) {
+        return 0;
+    }
+    v as u8
+}
+
+fn coordinate_of(v: i32) -> i16
+    ensures { λ r. ⌜ r ≡ coordinateOf v ⌝ }
+{
+    if is_outside(-RANGE, RANGE, v) {
+        return 0;
+    }
+    v as i16
 }

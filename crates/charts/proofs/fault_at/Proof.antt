@@ -3,10 +3,6 @@ use Rattle.charts.specs.Chart.{faultAt}
 use Rattle.charts.proofs.Numbers.{told}
 use Rattle.charts.proofs.fault_at.Statement.{statement}
 use Rattle.charts.proofs.fault_at.Tie as tie
-use Rattle.charts.proofs.fault_at.Reads as reads
-use Rattle.charts.proofs.fault_at.Lts as lts
-use Rattle.charts.proofs.fault_of.Reads as fault-of-reads
-use Rattle.charts.proofs.number_at.Reads as number-at-reads
 
 number-at-requires : tie.Need-number-at-requires
 number-at-requires c κs = search needs

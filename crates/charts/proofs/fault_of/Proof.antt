@@ -1,6 +1,6 @@
 use borrow.Author.Needs.{needs}
 use mathlib.Core.Path.{_≡_, _∙_, ap, ap₂}
-use mathlib.Core.Bool.{true, false}
+use mathlib.Core.Bool.{false}
 use lib.IntN.{pos}
 use mir.Facts.{toZ-ofZ}
 use Rattle.charts.specs.Fault.{outside, offRange, sameEnds, faultOf}

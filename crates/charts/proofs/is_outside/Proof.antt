@@ -1,4 +1,3 @@
-use mathlib.Core.Path.{_≡_, _∙_}
 use lib.Signed.{ltZ}
 use Rattle.charts.specs.Fault.{outside}
 use Rattle.charts.proofs.Numbers.{shown, or-yes, or-no, lt-kept}

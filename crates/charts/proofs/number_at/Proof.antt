@@ -1,9 +1,8 @@
 use borrow.Author.Needs.{needs}
-use mathlib.Core.Path.{_≡_, sym}
+use mathlib.Core.Path.{sym}
 use native.Mathlib.Omega.{arith}
 use lib.IntN.{pos}
 use lib.ListN.{List·getD-eq-default}
-use mir.Facts.{toZ-ofZ}
 use Rattle.charts.specs.Chart.{numberAt}
 use Rattle.charts.proofs.number_at.Statement.{statement}
 use Rattle.charts.proofs.number_at.Tie as tie

@@ -4,14 +4,11 @@ use Prim.Native.Nat.{ℕ, suc, _≤_, _-_, _/_}
 use native.Mathlib.Numerals.{add-one}
 use native.Mathlib.Omega.{arith}
 use lib.ListN.{length}
-use Rattle.charts.specs.Chart.{most, faultAt, pieces, verdictOf}
+use Rattle.charts.specs.Chart.{faultAt, pieces, verdictOf}
 use Rattle.charts.specs.declared.Verdict.the-variants.{Accepted, Refused}
 use Rattle.charts.proofs.Pieces.{pieces-none, pieces-sound, pieces-fault, pieces-stay, list-nine, list-three, list-pieces}
 use Rattle.charts.proofs.verdict_of.Statement.{statement}
 use Rattle.charts.proofs.verdict_of.Tie as tie
-use Rattle.charts.proofs.verdict_of.Reads as reads
-use Rattle.charts.proofs.verdict_of.Lts as lts
-use Rattle.charts.proofs.fault_at.Reads as fault-at-reads
 
 abbrev Inv-loop : tie.InvT-loop
 Inv-loop list n i₀ i = (i ≤ n) × (pieces list i ≡ Accepted i)
