@@ -2,7 +2,7 @@
 use mathlib.Core.Path.{_≡_, refl, sym, ap, _∙_}
 use mathlib.Core.Logic.{_⊎_, inl, inr, ⊎-elim, by-cases}
 use mathlib.Core.Bool.{Bool, true, false, cond, _||_}
-use mathlib.Core.List.{List, [], _∷_, _++_, Memᴰ·append-left, Memᴰ·append-right, List·Memᴰ·append-cases}
+use mathlib.Core.List.{List, [], _∷_}
 use mathlib.Core.List.{List·Memᴰ as In, List·Memᴰ·head as here, List·Memᴰ·tail as there}
 use Prim.Native.Nat.{ℕ, suc, _≤_, _<_}
 use native.Mathlib.Omega.{arith}
@@ -15,6 +15,7 @@ use Rattle.sweep.specs.Geometry.{Occurs}
 use Rattle.sweep.specs.Demand.{Pieces}
 use Rattle.sweep.proofs.Tests.{ask, or-one, or-left, or-right, neither, clash}
 use Rattle.sweep.proofs.Pairs.{among-in, among-out}
+use Rattle.sweep.proofs.Sorting.{place-in, place-out}
 use Rattle.sweep.proofs.Occurring.{at-occurs}
 use Rattle.sweep.proofs.Ranked.{Ranked, less-true, less-false}
 use Rattle.sweep.proofs.First.{kind-cases, two-meet, first-crosses, first-min}
@@ -30,7 +31,7 @@ module _ (C : Chart) (F : Ranked C) (p : C .Point) (op : Occurs C p) where
 
   -- what examining a pair comes to: nothing new, or the pair waits
   abbrev Looked : Pair → Marks → Marks → Type 0
-  Looked q m e = ((e ≡ m) × Known C m q) ⊎ ((e ≡ wait q m) × (kind C q ≡ crosses) × (key p < key (at C q)))
+  Looked q m e = ((e ≡ m) × Known C m q) ⊎ ((e ≡ wait C q m) × (kind C q ≡ crosses) × (key p < key (at C q)))
 
   examine-marked : (q : Pair) (m : Marks) → (among q (m .listed) || among q (m .waiting)) ≡ true → examine C p q m ≡ m
   unfolding examine
@@ -74,19 +75,18 @@ module _ (C : Chart) (F : Ranked C) (p : C .Point) (op : Occurs C p) where
       (kind-cases (kind C q)))
       (ask (among q (m .listed) || among q (m .waiting)))
 
-  wait-good : (q : Pair) (m : Marks) → Good C F (suc (key p)) m → Pieces C q → kind C q ≡ crosses → key p < key (at C q) → Good C F (suc (key p)) (wait q m)
+  wait-good : (q : Pair) (m : Marks) → Good C F (suc (key p)) m → Pieces C q → kind C q ≡ crosses → key p < key (at C q) → Good C F (suc (key p)) (wait C q m)
   unfolding wait
-  wait-good q m G v k l = record { met = G .met; full = G .full; ahead = λ r h. ahead r (List·Memᴰ·append-cases (m .waiting) h) }
+  wait-good q m G v k l = record { met = G .met; full = G .full; ahead = λ r h. ahead r (place-out _ q (m .waiting) h) }
     where
-      ahead : (r : Pair) → In r (m .waiting) ⊎ In r (q ∷ []) → Pieces C r × (kind C r ≡ crosses) × (suc (key p) ≤ key (at C r))
-      ahead r (inl h) = G .ahead r h
-      ahead r (inr (here e)) = rw e (v, k, l)
-      ahead r (inr (there h)) = elim h [ ]
+      ahead : (r : Pair) → In r (q ∷ m .waiting) → Pieces C r × (kind C r ≡ crosses) × (suc (key p) ≤ key (at C r))
+      ahead r (here e) = rw e (v, k, l)
+      ahead r (there h) = G .ahead r h
 
-  wait-known : (q r : Pair) (m : Marks) → Known C m r → Known C (wait q m) r
+  wait-known : (q r : Pair) (m : Marks) → Known C m r → Known C (wait C q m) r
   unfolding wait
   wait-known q r m (inl h) = inl h
-  wait-known q r m (inr (inl h)) = inr (inl (Memᴰ·append-left _ h))
+  wait-known q r m (inr (inl h)) = inr (inl (place-in _ q (m .waiting) (there h)))
   wait-known q r m (inr (inr e)) = inr (inr e)
 
   -- what a look at a list of pairs leaves
@@ -106,8 +106,8 @@ module _ (C : Chart) (F : Ranked C) (p : C .Point) (op : Occurs C p) where
   after-one q m e G v (inr (d, k, l)) =
       rw d (record { good = wait-good q m G v k l; same-list = refl; kept = λ r h. wait-known q r m h; known = λ r h. one r h })
     where
-      one : (r : Pair) → In r (q ∷ []) → Known C (wait q m) r
-      one r (here g) = rw g (inr (inl (Memᴰ·append-right (m .waiting) (here refl))))
+      one : (r : Pair) → In r (q ∷ []) → Known C (wait C q m) r
+      one r (here g) = rw g (inr (inl (place-in _ q (m .waiting) (here refl))))
       one r (there h) = elim h [ ]
 
   after-more : (q : Pair) (l : List Pair) (m d e : Marks) → After (q ∷ []) m d → After l d e → After (q ∷ l) m e

@@ -37,10 +37,6 @@ list-adds : (q : Pair) (m : Marks) → Adds m (list q m)
 unfolding list
 list-adds q m = record { more = q ∷ []; is = refl }
 
-wait-adds : (q : Pair) (m : Marks) → Adds m (wait q m)
-unfolding wait
-wait-adds q m = begins-same (m .listed)
-
 cond-adds : (b : Bool) (m d e : Marks) → Adds m d → Adds m e → Adds m (cond b d e)
 cond-adds true m d e x y = x
 cond-adds false m d e x y = y
@@ -57,11 +53,15 @@ module _ (C : Chart) where
   unfolding report
   report-adds q m = cond-adds (not (among q (m .listed)) && meets (kind C q)) m (list q m) m (list-adds q m) (begins-same (m .listed))
 
+  wait-adds : (q : Pair) (m : Marks) → Adds m (wait C q m)
+  unfolding wait
+  wait-adds q m = begins-same (m .listed)
+
   free-adds : (p : Point) (k : Kind) (q : Pair) (m : Marks) → Adds m (examine-free C p k q m)
   unfolding examine-free
   free-adds p nothing q m = begins-same (m .listed)
   free-adds p overlaps q m = list-adds q m
-  free-adds p crosses q m = cond-adds (less p (at C q)) m (wait q m) (list q m) (wait-adds q m) (list-adds q m)
+  free-adds p crosses q m = cond-adds (less p (at C q)) m (wait C q m) (list q m) (wait-adds q m) (list-adds q m)
 
   examine-adds : (p : Point) (q : Pair) (m : Marks) → Adds m (examine C p q m)
   unfolding examine

@@ -5,8 +5,8 @@ use Prim.Native.Nat.{ℕ}
 use Rattle.sweep.specs.Lists.{Pair}
 use Rattle.sweep.specs.Chart.{Chart}
 
--- "one state per pair (free, waiting, listed)": the pairs that wait and those that are listed, each in the order in
--- which they came; every other pair is free. Numbers in a pair stand lesser first.
+-- "one state per pair (free, waiting, listed)": the pairs that wait, in the order of their crossings, and those that are
+-- listed, in the order in which they came; every other pair is free. Numbers in a pair stand lesser first.
 pub record Marks : Type 0 where
   pub waiting : List Pair
   pub listed : List Pair

@@ -4,19 +4,16 @@ use mathlib.Core.List.{List, [], _∷_, _++_}
 use mathlib.Core.Option.{some}
 use Prim.Native.Nat.{ℕ, suc}
 use lib.Dec.{eqb}
-use Rattle.sweep.specs.Lists.{Pair, among, upto, keep, any, sort, pairs, adjacent}
+use Rattle.sweep.specs.Lists.{Pair, among, upto, keep, any, place, sort, pairs, adjacent}
 use Rattle.sweep.specs.Chart.{Kind, nothing, crosses, overlaps, Chart, meets, same, kind, at}
 use Rattle.sweep.specs.State.{Marks, State}
 
--- a pair goes to the end of the list, or begins to wait
+-- a pair goes to the end of the list
 unfoldable pub list : Pair → Marks → Marks
 list q m = record { waiting = m .waiting; listed = m .listed ++ (q ∷ []) }
 
-unfoldable pub wait : Pair → Marks → Marks
-wait q m = record { waiting = m .waiting ++ (q ∷ []); listed = m .listed }
-
 -- pair by pair, in order
-unfoldable pub each : (Pair → Marks → Marks) → List Pair → Marks → Marks
+unfoldable pub each : {S : Type 0} → (Pair → S → S) → List Pair → S → S
 each f [] m = m
 each f (q ∷ l) m = each f l (f q m)
 
@@ -50,6 +47,10 @@ module _ (C : Chart) where
 
   unfoldable pub reported : State C → Point → Marks
   reported s p = drop p (each report (pairs (pieces s p)) (s .marks))
+
+  -- a pair begins to wait, in its place by its crossing
+  unfoldable pub wait : Pair → Marks → Marks
+  wait q m = record { waiting = place (λ r t. less (at C r) (at C t)) q (m .waiting); listed = m .listed }
 
   -- "Examining skips a listed or waiting pair. An Overlap is listed. A Crossing at or before p is listed, one after p
   -- is queued and waits."

@@ -8,9 +8,10 @@ use lib.ListN.{length, getD, set, take, replicate}
 use Rattle.charts.specs.Chart.{most}
 use Rattle.sweep.specs.Lists.{Pair, keep, pairs, adjacent}
 use Rattle.sweep.specs.Chart.{Chart}
+use Rattle.sweep.specs.Step.{each}
 use Rattle.sweep_arrays.specs.Numbers.{pairOf, end-at, crossing-at}
 use Rattle.sweep_arrays.specs.Insertion.{insert-all, front, rest, join-all}
-use Rattle.sweep_arrays.specs.Ledger.{Ledger, each, report, examine}
+use Rattle.sweep_arrays.specs.Ledger.{Ledger, report, examine}
 
 -- numbers flagged with 1 in an array
 unfoldable pub flag : List ℕ → List ℕ → List ℕ

@@ -36,11 +36,6 @@ list q s =
       end = past (s .end) (s .bytes);
     }
 
--- pair by pair, in order
-unfoldable pub each : (Pair → Ledger → Ledger) → List Pair → Ledger → Ledger
-each f [] s = s
-each f (q ∷ l) s = each f l (f q s)
-
 module _ (C : Chart) where
   open Chart C using (Point, less)
 
