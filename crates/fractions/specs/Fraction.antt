@@ -1,8 +1,7 @@
 -- The order of two fractions, over the whole numbers.
 use mathlib.Core.Bool.{cond}
 use Prim.Native.Nat.{ℕ}
-use lib.IntN.{ℤ, pos, negℤ, natAbs, _*ℤ_}
-use lib.Signed.{ltZ}
+use lib.IntN.{ℤ, pos, negℤ, _*ℤ_}
 use Rattle.fractions.specs.Order.{order}
 use Rattle.fractions.specs.declared.Order.{Order}
 use Rattle.fractions.specs.declared.Fraction.{Fraction}
@@ -18,7 +17,3 @@ above f = cond (f .negative) (negℤ (pos (f .over))) (pos (f .over))
 
 unfoldable pub fractionOrder : Fraction → Fraction → Order
 fractionOrder a b = ratioOrder (above a) (a .under) (above b) (b .under)
-
--- x over d by sign and size
-unfoldable pub fractionOf : ℤ → ℕ → Fraction
-fractionOf x d = record { negative = ltZ x (pos 0); over = natAbs x; under = d }

@@ -9,13 +9,13 @@ unfoldable pub order : ℤ → ℤ → Order
 order a b = three Less Equal Greater a b
 
 -- seen from the other side
-unfoldable pub turned : Order → Order
+abbrev pub turned : Order → Order
 turned Less = Greater
 turned Equal = Equal
 turned Greater = Less
 
 -- the second answer where the first is Equal
-unfoldable pub andThen : Order → Order → Order
+abbrev pub andThen : Order → Order → Order
 andThen Less o = Less
 andThen Equal o = o
 andThen Greater o = Greater

@@ -36,5 +36,5 @@ lowestOf x y d =
     record { x = quotZ x (pos g); y = quotZ y (pos g); d = d / g }
 
 -- a point with whole coordinates
-unfoldable pub wholeOf : ℤ → ℤ → Point
+abbrev pub wholeOf : ℤ → ℤ → Point
 wholeOf x y = record { x = x; y = y; d = 1 }
