@@ -23,7 +23,7 @@ unfoldable pub side : LineSegment → Point → ℤ
 side s p = run s *ℤ (p .y -ℤ s .min .y *ℤ pos (p .d)) -ℤ rise s *ℤ (p .x -ℤ s .min .x *ℤ pos (p .d))
 
 -- an end that precedes as the order says is no bar; at the end itself, it counts only where it is included
-unfoldable pub admits : Order → Bool → Bool
+abbrev pub admits : Order → Bool → Bool
 admits Less included = true
 admits Equal included = included
 admits Greater included = false

@@ -17,9 +17,12 @@ use Rattle.line_segment.specs.Piece.{pointOf, endOrder, joinOf}
 use Rattle.line_segment.specs.Geometry.{run, rise, side, admits}
 
 -- "`leftmost`, `rightmost`: of equal points, Exclusive wins."
+abbrev pub exclusiveOf : EndPoint → EndPoint → EndPoint
+exclusiveOf a b = cond (a .included) b a
+
 unfoldable pub leftBy : Order → EndPoint → EndPoint → EndPoint
 leftBy Less a b = a
-leftBy Equal a b = cond (a .included) b a
+leftBy Equal a b = exclusiveOf a b
 leftBy Greater a b = b
 
 unfoldable pub leftmostOf : EndPoint → EndPoint → EndPoint
@@ -27,7 +30,7 @@ leftmostOf a b = leftBy (endOrder a b) a b
 
 unfoldable pub rightBy : Order → EndPoint → EndPoint → EndPoint
 rightBy Less a b = b
-rightBy Equal a b = record { x = a .x; y = a .y; included = a .included && b .included }
+rightBy Equal a b = exclusiveOf a b
 rightBy Greater a b = a
 
 unfoldable pub rightmostOf : EndPoint → EndPoint → EndPoint

@@ -1,5 +1,11 @@
 // The pieces of a chart and where two of them meet, after the Rust's line_segment.rs: its names, and its cases in
 // its order. Coordinates are i16, so every function takes every value of its types.
+ghost use mathlib.Core.Path.{_≡_};
+ghost use Rattle.line_segment.specs.Piece.{pointOf, endOrder, joinOf, pieceOf};
+ghost use Rattle.line_segment.specs.Geometry.{admits};
+ghost use Rattle.line_segment.specs.Segment.{exclusiveOf, leftmostOf, rightmostOf, innerBetween, stretchOf, touchOf, turnTo, intersectOf};
+use fractions::Order;
+use orientation::Orientation;
 
 // An end of a piece: its point, and whether the piece has that point.
 pub struct EndPoint {
@@ -19,4 +25,146 @@ pub enum Meeting {
     Nothing,
     Crossing,
     Overlap(LineSegment),
+}
+
+// Which of two ends comes first, by x, then y.
+pub fn end_order(a: EndPoint, b: EndPoint) -> Order
+    ensures { λ r. ⌜ r ≡ endOrder a b ⌝ }
+{
+    let ax = a.x;
+    let bx = b.x;
+    let ay = a.y;
+    let by = b.y;
+    if ax < bx {
+        Order::Less
+    } else if bx < ax {
+        Order::Greater
+    } else if ay < by {
+        Order::Less
+    } else if by < ay {
+        Order::Greater
+    } else {
+        Order::Equal
+    }
+}
+
+// The piece between two ends, each with its mark.
+pub fn join(a: EndPoint, b: EndPoint) -> LineSegment
+    ensures { λ r. ⌜ r ≡ joinOf a b ⌝ }
+{
+    match end_order(a, b) {
+        Order::Less => LineSegment { min: a, max: b },
+        Order::Equal => LineSegment { min: b, max: a },
+        Order::Greater => LineSegment { min: b, max: a },
+    }
+}
+
+// The piece of the five numbers of a chart.
+pub fn piece(kind: u8, x1: i16, y1: i16, x2: i16, y2: i16) -> LineSegment
+    ensures { λ r. ⌜ r ≡ pieceOf kind x1 y1 x2 y2 ⌝ }
+{
+    let a = EndPoint {
+        x: x1,
+        y: y1,
+        included: kind % 2 == 1,
+    };
+    let b = EndPoint {
+        x: x2,
+        y: y2,
+        included: kind / 2 % 2 == 1,
+    };
+    join(a, b)
+}
+
+// Of two ends at one point, the excluded one.
+pub fn exclusive(a: EndPoint, b: EndPoint) -> EndPoint
+    ensures { λ r. ⌜ r ≡ exclusiveOf a b ⌝ }
+{
+    if a.included { b } else { a }
+}
+
+// The lesser of two ends.
+pub fn leftmost(a: EndPoint, b: EndPoint) -> EndPoint
+    ensures { λ r. ⌜ r ≡ leftmostOf a b ⌝ }
+{
+    match end_order(a, b) {
+        Order::Less => a,
+        Order::Equal => exclusive(a, b),
+        Order::Greater => b,
+    }
+}
+
+// The greater of two ends.
+pub fn rightmost(a: EndPoint, b: EndPoint) -> EndPoint
+    ensures { λ r. ⌜ r ≡ rightmostOf a b ⌝ }
+{
+    match end_order(a, b) {
+        Order::Less => b,
+        Order::Equal => exclusive(a, b),
+        Order::Greater => a,
+    }
+}
+
+// Whether a point may follow an end, or an end a point, in this order: at the end itself only where it is included.
+pub fn allows(o: Order, included: bool) -> bool
+    ensures { λ r. ⌜ r ≡ admits o included ⌝ }
+{
+    match o {
+        Order::Less => true,
+        Order::Equal => included,
+        Order::Greater => false,
+    }
+}
+
+// Whether the point of p lies between two ends; its own mark does not count.
+pub fn inner_between(p: EndPoint, a: EndPoint, b: EndPoint) -> bool
+    ensures { λ r. ⌜ r ≡ innerBetween (pointOf p) a b ⌝ }
+{
+    let s = join(a, b);
+    let left = s.min;
+    let right = s.max;
+    allows(end_order(left, p), left.included) && allows(end_order(p, right), right.included)
+}
+
+// Two pieces of one line: the stretch from the rightmost min to the leftmost max.
+pub fn stretch(a: LineSegment, b: LineSegment) -> Meeting
+    ensures { λ r. ⌜ r ≡ stretchOf a b ⌝ }
+{
+    let left = rightmost(a.min, b.min);
+    let right = leftmost(a.max, b.max);
+    let s = LineSegment {
+        min: left,
+        max: right,
+    };
+    match end_order(left, right) {
+        Order::Less => Meeting::Overlap(s),
+        Order::Equal => {
+            if right.included && left.included {
+                Meeting::Overlap(s)
+            } else {
+                Meeting::Nothing
+            }
+        }
+        Order::Greater => Meeting::Nothing,
+    }
+}
+
+// An end of one piece on the line of another, s, which it meets there or nowhere.
+pub fn touch(e: EndPoint, s: LineSegment) -> Meeting
+    ensures { λ r. ⌜ r ≡ touchOf e s ⌝ }
+{
+    if e.included && inner_between(e, s.min, s.max) {
+        Meeting::Crossing
+    } else {
+        Meeting::Nothing
+    }
+}
+
+// How an end lies to the line of a piece.
+pub fn turn_to(s: LineSegment, e: EndPoint) -> Orientation
+    ensures { λ r. ⌜ r ≡ turnTo s e ⌝ }
+{
+    let from = s.min;
+    let to = s.max;
+    orientation::orient(from.x, from.y, to.x, to.y, e.x, e.y)
 }
