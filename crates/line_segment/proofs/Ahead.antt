@@ -40,7 +40,6 @@ difference {a} {b} e = subst (λ (z : ℤ). b -ℤ z ≡ pos 0) (sym e) (by-ring
 lex : (a b c d : ℤ) (P : Order → Type 0)
     → (Ahead (b -ℤ a) (d -ℤ c) → P Less) → (a ≡ b → c ≡ d → P Equal) → (Ahead (a -ℤ b) (c -ℤ d) → P Greater)
     → P (andThen (order a b) (order c d))
-unfolding andThen
 lex a b c d P f s t = go (tri a b) (tri c d)
   where
     at : {o o′ : Order} → order a b ≡ o → order c d ≡ o′ → P (andThen o o′) → P (andThen (order a b) (order c d))
