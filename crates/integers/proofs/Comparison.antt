@@ -1,5 +1,5 @@
--- What an answer `three l e g a b` of a comparison is (`three-less`, `three-equal`, `three-greater`, from an order), and what it tells.
--- `by-three a b P f s t : P (three l e g a b)` goes by the three cases, each with its order in hand; so a law of answers is one line.
+-- The answer `three l e g a b` of a comparison: what it is, from an order (`three-less`, `three-equal`, `three-greater`, `three-neither`).
+-- `by-three a b P f s t : P (three l e g a b)` goes by the three cases, each with its order in hand.
 -- `flipped` below is the example: the same comparison, asked the other way round. Assumes nothing.
 use mathlib.Core.Path.{_≡_, refl, sym, _∙_, subst}
 use mathlib.Core.Bool.{Bool, true, false, cond}

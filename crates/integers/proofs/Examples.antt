@@ -1,5 +1,5 @@
--- The tools at work on plane geometry, one line each: nothing here is cited elsewhere.
--- Orientation turned, swapped and shifted; Cramer's point on both lines; the order of two crossings on a third line, of degree 5 in 12 variables; the order of fractions; the zero of a linear function.
+-- The tools at work on plane geometry, a line each: orientation turned, swapped and shifted; Cramer's point on both lines; the order of two
+-- crossings on a third line, of degree 5 in 12 variables; the order of fractions; the zero of a linear function. Cited nowhere.
 -- Assumes nothing.
 use mathlib.Core.Path.{_≡_}
 use mathlib.Core.List.{[], _∷_}

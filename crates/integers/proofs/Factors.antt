@@ -1,5 +1,5 @@
--- A factor in an order or an equation: put in, cancelled, and the sign of a product with numbers below 0.
--- `*-cancel-< a b c p h : a <ℤ b` from h : (a *ℤ c) <ℤ (b *ℤ c); the numbers are explicit, since a product does not show them.
+-- A factor put into an order, or cancelled: `*-mono-< a b p h`, `*-cancel-< a b c p h`; the numbers are written, since a product does not show them.
+-- The sign of a product with numbers below 0 (m) or at most 0 (o): `p*m h k`; what the sign of a product says of a factor: `p/p a q h`. No zero divisors.
 -- `twice` below is the example. Assumes nothing.
 use mathlib.Core.Path.{_≡_, sym, ap}
 use mathlib.Core.List.{[], _∷_}

@@ -1,6 +1,6 @@
--- Identities of ℤ in one line: `by-ring ρ (search terms depth 60 fits 20000) tt`, with ρ the list of the atoms in the goal.
--- A false identity is refused at `tt`, "the two sides are ⊥ and Unit"; a missing atom or `unfolding`, "no proof of `Read ..`".
--- `square` below is the example. A variable under `pos` is read as a constant: put `pos n` into the list's place of a law over any z. Assumes nothing.
+-- Identities of ℤ in one line: `by-ring ρ (search terms depth 60 fits 20000) tt`, with ρ the list of the goal's atoms, as in `square` below.
+-- Refused at `tt` ("the two sides are ⊥ and Unit"): the identity is false. "No proof of `Read ..`": an atom or an `unfolding` is missing.
+-- An atom `pos n` at a variable n is read as a constant: prove the identity of any z, and put `pos n` for z. Assumes nothing.
 use mathlib.Core.Path.{_≡_, refl, sym, ap, _∙_}
 use mathlib.Core.List.{List, [], _∷_}
 use Prim.Native.Nat.{ℕ, zero, suc}

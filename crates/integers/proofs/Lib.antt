@@ -12,7 +12,7 @@
 --   code: it fits, it is the formula, its bound    Machine     m-fits, m-eq, m-bound, m-carry
 --   code: what a branch says                       Tests       m-yes, m-no; the sets `sized` and `ranged`
 --   code: a type's range as two orders             Ranges      range-lo, range-hi, range-of
---   code: casts between signed and unsigned        Unsigned    m-under, m-cast
+--   code: casts between signed and unsigned        Unsigned    m-under, m-cast, m-size
 -- `Ring` and `Polynomial` are what `Identity` stands on.
 pub mod Ring
 pub mod Polynomial

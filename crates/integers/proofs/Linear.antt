@@ -1,5 +1,5 @@
--- Linear goals over ℤ by `omega`: each number is read as a difference of two naturals, `hi` less `lo`.
--- With `let x′ = unknown x in` for each unknown: `≤-goal (search linear depth 60 fits 20000) (omega (arith, ≤-fact h (search linear depth 60 fits 20000)))`; `<` and `≡` likewise, of facts and of the goal.
+-- Linear goals over ℤ by `omega`, each number read as a difference of two naturals, `hi` less `lo`. Bind each unknown: `let x′ = unknown x in ..`
+-- `≤-goal (search linear depth 60 fits 20000) (omega (arith, ≤-fact h (search linear depth 60 fits 20000)))`; `<` and `≡` likewise, in goal and facts.
 -- `doubled` below is the example. A product of two unknowns is four unknown products. Assumes nothing.
 use mathlib.Core.Path.{_≡_, sym, ap, _∙_, subst}
 use mathlib.Core.List.{[], _∷_}

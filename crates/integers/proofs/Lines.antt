@@ -1,5 +1,5 @@
--- A linear function u + v x at a fraction n/m: its sign there is that of `at u v n m`, for m above 0. `rises`, `falls`: the sign of v from two signs; `root-up`, `root-down`: the zero lies strictly between.
--- `root-up u v n1 m1 n2 m2 p1 p2 x h k : Between (negℤ u) v n1 m1 n2 m2`, from x : n1/m1 < n2/m2, h : below 0 at the first, k : above 0 at the second.
+-- A linear function u + v x at a fraction n/m: its sign there is that of `at u v n m`, for m above 0.
+-- Signs at two places, the lesser first, give the sign of v (`rises`, `falls`) or a zero strictly between (`root-up`, `root-down`); `stays-above` goes on.
 -- `one-third` below is the example. Assumes nothing.
 use mathlib.Core.List.{[], _∷_}
 use lib.IntN.{ℤ, pos, negsuc, negℤ, _+ℤ_, _*ℤ_}

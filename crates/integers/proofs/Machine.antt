@@ -1,6 +1,6 @@
 -- What a computation in i8 to i64 comes to. Its locals hold bits, so a need speaks of `toZ w64 (ofZ w64 z)` at each step; `Mach z` reads such a z.
--- `m-fits (search sized depth 60 fits 20000) tt` closes a need "it fits", `m-eq (..) tt` "it is the formula"; `search ranged ..` takes the types' ranges where `sized` takes `Small` facts as leaves (Tests.antt has both sets).
--- `product` below is the example. Assumes nothing.
+-- It fits: `m-fits (search ranged depth 60 fits 20000) tt`. It is the formula: `m-eq (..) tt`. It is bounded: `m-bound (..) tt : Small A z`.
+-- The sets `ranged` and `sized` are in Tests.antt. `product` below is the example. Assumes nothing.
 use mathlib.Core.Path.{_≡_, refl, sym, ap, _∙_, subst}
 use mathlib.Core.Bool.{Bool, true, false, _&&_}
 use Prim.Native.Nat.{ℕ, suc, _+_, _*_, _^_, _≤_, _<_}
@@ -88,19 +88,19 @@ m-negsuc {n} = record { plain = negsuc n; top = suc n; good = true; is = λ t. r
 abbrev pub m-small : {A : ℕ} {z : ℤ} → Small A z → Mach z
 m-small {A} {z} h = record { plain = z; top = A; good = true; is = λ t. refl; ok = λ t. h .small }
 
+-- of which an equation is known, as a call's result (`c .f .ensures`); in no set: `search (ranged, m-is) ..`
+abbrev pub m-is : {r z : ℤ} → r ≡ z → Mach z → Mach r
+m-is e x = record { plain = x .plain; top = x .top; good = x .good; is = λ t. e ∙ x .is t; ok = x .ok }
+
 -- of which only the type's range is known: a parameter (`c .fits .x`), a call's result (`c .f .ok`). Below 64 bits that is a bound to compute with
 abbrev pub m-range : {w : Width} {z : ℤ} → SFits w z → Mach z
 m-range {w} {z} h = record { plain = z; top = 2 ^ hbits w; good = true; is = λ t. refl; ok = λ t. natAbs-le z (h .sfits) }
 
 abbrev pub m-kept : {w : Width} {z : ℤ} → SFits w z → Mach (toZ w (ofZ w z))
-m-kept {w} {z} h = record { plain = z; top = 2 ^ hbits w; good = true; is = λ t. toZ-ofZ w z h; ok = λ t. natAbs-le z (h .sfits) }
+m-kept {w} {z} h = m-is (toZ-ofZ w z h) (m-range h)
 
 abbrev pub m-result : (w : Width) (z : ℤ) → mag z < 2 ^ hbits w → Mach (toZ w (ofZ w z))
 m-result w z h = m-kept {w = w} {z = z} (record { sfits = h })
-
--- of which an equation is known, as a call's result (`c .f .ensures`); in no set: `search (sized, m-is) ..`
-abbrev pub m-is : {r z : ℤ} → r ≡ z → Mach z → Mach r
-m-is e x = record { plain = x .plain; top = x .top; good = x .good; is = λ t. e ∙ x .is t; ok = x .ok }
 
 -- ---- what a need asks
 pub m-fits : {w : Width} {z : ℤ} (x : Mach z) → T (x .good && ltb (x .top) (2 ^ hbits w)) → SFits w z

@@ -1,5 +1,5 @@
--- Between ℕ and ℤ: `pos-≤` and `pos-<` take an order of naturals to ℤ, `≤-pos` and `<-pos` take it back; so `omega` and the laws of Order.antt meet.
--- `natural h : pos (natAbs z) ≡ z` for z at least 0; `pos` of sums and products computes.
+-- Between ℕ and ℤ: `pos-≤` and `pos-<` take an order of naturals to ℤ, `≤-pos` and `<-pos` take it back, so that `omega` and the laws of ℤ meet.
+-- `natural h : pos (natAbs z) ≡ z`, for h : pos 0 ≤ℤ z. `pos` of a sum or a product computes.
 -- `index` below is the example. Assumes nothing.
 use mathlib.Core.Path.{_≡_, ap}
 use Prim.Native.Nat.{ℕ, _+_, _*_, _≤_, _<_}

@@ -1,18 +1,18 @@
--- The order of ℤ: certificates, three-way comparison as data, and the order's laws.
--- `<-cert ρ s (search terms depth 60 fits 20000) tt : a <ℤ b`, with s : pos 0 <ℤ e, where b - a is e by `by-ring` over the atoms ρ (`≤-cert` likewise).
--- `tri a b` is `less h`, `same e` or `more h`. `between-squares` below is the example. Assumes nothing.
-use mathlib.Core.Path.{_≡_, refl, sym, ap, _∙_, subst}
+-- The order of ℤ: `tri a b` is `less h`, `same e` or `more h`; chains, antisymmetry, shifts; and certificates.
+-- `<-cert ρ s (search terms depth 60 fits 20000) tt : a <ℤ b`, where b - a is, by the ring laws, the number whose sign is s; `≤-cert`, `≡-cert` likewise.
+-- `between-squares` and `substituted` below are examples. Assumes nothing.
+use mathlib.Core.Path.{_≡_, refl, sym, _∙_, subst}
 use mathlib.Core.Bool.{not}
 use mathlib.Core.List.{List, [], _∷_}
 use mathlib.Core.Logic.{_⊎_, inl, inr}
 use Prim.Native.Nat.{zero, suc}
 use native.Mathlib.Omega.{arith}
 use lib.Dec.{T, lt→ltb, nleb→lt}
-use lib.IntN.{ℤ, pos, negsuc, negℤ, _+ℤ_, _-ℤ_, _*ℤ_, +ℤ-idl, -ℤ-+ℤ-cancel}
+use lib.IntN.{ℤ, pos, negsuc, negℤ, _+ℤ_, _-ℤ_, _*ℤ_}
 use lib.Signed.{leZ, ltZ, _≤ℤ_, _<ℤ_, ≤ℤ-refl, <ℤ-≤ℤ-trans, clashℤ}
 use Rattle.integers.proofs.Polynomial.{norm, isZero}
 use Rattle.integers.proofs.Identity.{Read, by-ring, terms}
-use Rattle.integers.proofs.Signs.{≤-diff, diff-≤, <-diff, diff-<, <→≤, n+n, p+n, sq}
+use Rattle.integers.proofs.Signs.{≤-diff, diff-≤, <-diff, diff-<, ≡-diff, diff-≡, <→≤, n+n, p+n, sq, z+z, x*z}
 
 -- ---- an inequality from a number of known sign that the difference of its sides is
 module _ (ρ : List ℤ) {a b s : ℤ} where
@@ -22,8 +22,15 @@ module _ (ρ : List ℤ) {a b s : ℤ} where
   pub <-cert : pos 0 <ℤ s → (x : Read ρ (b -ℤ a -ℤ s)) → T (isZero (norm (x .ex))) → a <ℤ b
   <-cert h x t = diff-< (subst (λ (z : ℤ). pos 0 <ℤ z) (sym (by-ring ρ x t)) h)
 
+  pub ≡-cert : s ≡ pos 0 → (x : Read ρ (b -ℤ a -ℤ s)) → T (isZero (norm (x .ex))) → a ≡ b
+  ≡-cert e x t = diff-≡ a b (by-ring ρ x t ∙ e)
+
 between-squares : (a b : ℤ) → (a *ℤ b +ℤ a *ℤ b) ≤ℤ (a *ℤ a +ℤ b *ℤ b)
 between-squares a b = ≤-cert (a ∷ b ∷ []) (sq (a -ℤ b)) (search terms depth 60 fits 20000) tt
+
+-- the two equations, times the right factors, add up to the third
+substituted : (u v w k l : ℤ) → u ≡ v *ℤ k → v ≡ w *ℤ l → u ≡ w *ℤ (l *ℤ k)
+substituted u v w k l e f = ≡-cert (u ∷ v ∷ w ∷ k ∷ l ∷ []) (z+z (≡-diff e) (x*z k (≡-diff f))) (search terms depth 60 fits 20000) tt
 
 -- ---- which of the two is less
 pub data Tri (a b : ℤ) : Type 0 where
@@ -41,7 +48,7 @@ tri a b = go (tri0 (b -ℤ a))
   where
     go : Tri (pos 0) (b -ℤ a) → Tri a b
     go (less h) = less (diff-< h)
-    go (same e) = same (sym (sym (-ℤ-+ℤ-cancel b a) ∙ ap (λ (x : ℤ). x +ℤ a) (sym e) ∙ +ℤ-idl a))
+    go (same e) = same (diff-≡ a b (sym e))
     go (more h) = more (<-cert (a ∷ b ∷ []) (<-diff h) (search terms depth 60 fits 20000) tt)
 
 -- ---- chains

@@ -1,6 +1,6 @@
 -- Identities of polynomials over ℤ by computation: `ring ρ e f tt : eval ρ e ≡ eval ρ f`, with ρ the values of the variables.
--- Horner form over the variables in order: `cst c`; `skip P`, P over the variables after the first; `hor P Q`, that is P x + Q with Q over those after the first, x. So no monomials are ordered.
--- Callers want `by-ring` of Identity.antt, which writes e and f itself. Assumes nothing.
+-- Callers want `by-ring` of Identity.antt, which finds e and f itself; `commuted` below calls `ring` by hand.
+-- Assumes nothing.
 use mathlib.Core.Path.{_≡_, refl, sym, ap, _∙_}
 use mathlib.Core.Bool.{Bool, true, false, _&&_}
 use mathlib.Core.List.{List, [], _∷_}
@@ -39,6 +39,7 @@ eval ρ (a :- b) = eval ρ a -ℤ eval ρ b
 eval ρ (a :* b) = eval ρ a *ℤ eval ρ b
 eval ρ (neg a) = negℤ (eval ρ a)
 
+-- Horner form over the variables in order: a constant; a polynomial in the variables after the first; or P x + Q, with x the first variable and Q in those after it. No monomials are compared, so no order of them is needed
 pub data Pol : Type 0 where
   cst : ℤ → Pol
   skip : Pol → Pol
@@ -195,3 +196,6 @@ ring0 ρ e t = sym (norm-val ρ e) ∙ isZero-val ρ (norm e) t
 pub ring : (ρ : List ℤ) (e f : Expr) → T (isZero (norm (e :- f))) → eval ρ e ≡ eval ρ f
 ring ρ e f t =
     sym (-ℤ-+ℤ-cancel (eval ρ e) (eval ρ f)) ∙ ap (λ (x : ℤ). x +ℤ eval ρ f) (ring0 ρ (e :- f) t) ∙ +ℤ-idl (eval ρ f)
+
+commuted : (a b : ℤ) → a *ℤ b ≡ b *ℤ a
+commuted a b = ring (a ∷ b ∷ []) (var 0 :* var 1) (var 1 :* var 0) tt

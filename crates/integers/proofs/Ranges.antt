@@ -1,4 +1,4 @@
--- The range of a signed type as two orders, for what goes by `omega` (Linear.antt): from -2^(w-1) up to, but not at, 2^(w-1).
+-- The range of a signed type as two orders, for what goes by `omega` (Linear.antt): at least -2^(w-1), and below 2^(w-1).
 -- `range-lo f`, `range-hi f` of an f : SFits w z, as `c .fits .z`; back by `range-of lo hi`.
 -- `narrow` below is the example. Assumes nothing.
 use Prim.Native.Nat.{ℕ, zero, suc, _^_, _<_, suc-le-suc}

@@ -1,5 +1,5 @@
--- The order of fractions, cross-multiplied: a/b < c/d is (a *ℤ d) <ℤ (c *ℤ b), with b and d above 0.
--- `ratio-<-trans a b c d e f pb pd pf h k : (a *ℤ f) <ℤ (e *ℤ b)`; only the middle denominator has to be known above 0 for a cancel, the outer two for their sign.
+-- The order of fractions, cross-multiplied: a/b < c/d is (a *ℤ d) <ℤ (c *ℤ b), with b and d above 0. Irreflexive by `<ℤ-irrefl`, total by `tri` of the products.
+-- `ratio-<-trans a b c d e f pb pd pf h k : (a *ℤ f) <ℤ (e *ℤ b)`, through c/d; with ≤ in one place or both, and with ≡.
 -- `half-two-thirds` below is the example. Assumes nothing.
 use mathlib.Core.Path.{_≡_, sym}
 use mathlib.Core.List.{[], _∷_}

@@ -1,5 +1,5 @@
 -- The laws of the ring ℤ that the kit leaves out: the product distributes and associates, and a sign moves out of it.
--- Callers want `by-ring` of Identity.antt instead; a law alone is called by its name, as `*ℤ-assoc a b c`.
+-- One law is called by name, as in `double` below; an identity of several steps is one line of Identity.antt.
 -- Assumes nothing.
 use mathlib.Core.Path.{_≡_, refl, sym, ap, _∙_}
 use Prim.Native.Nat.{zero, suc, _*_}
@@ -52,3 +52,6 @@ pub *ℤ-assoc : (a b c : ℤ) → (a *ℤ b) *ℤ c ≡ a *ℤ (b *ℤ c)
 pub *ℤ-idr : (a : ℤ) → a *ℤ pos 1 ≡ a
 unfolding one
 *ℤ-idr a = *ℤ-one a
+
+double : (a b : ℤ) → (a +ℤ a) *ℤ b ≡ a *ℤ b +ℤ a *ℤ b
+double a b = *ℤ-distribʳ a a b

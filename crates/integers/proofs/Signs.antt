@@ -1,12 +1,12 @@
--- The sign of a sum, a product, a square; and an order as the sign of a difference.
--- In names n is a number at least 0 and p one above 0: `p*p h k : pos 0 <ℤ (a *ℤ b)`. `search signs` builds the sign of a sum of products.
--- `both-diff` below is the example. Assumes nothing.
-use mathlib.Core.Path.{sym, ap, _∙_, subst}
+-- The sign of sums, products and squares, and an order as the sign of a difference (`≤-diff` to it, `diff-≤` from it; `<` and `≡` likewise).
+-- Names: n is a number at least 0, p above 0, z equal to 0, x any. So `p*p h k : pos 0 <ℤ (a *ℤ b)`; `search signs` builds such a sign, as in `both-diff` below.
+-- Numbers below 0 are in Factors.antt. Assumes nothing.
+use mathlib.Core.Path.{_≡_, sym, ap, _∙_, subst}
 use Prim.Native.Nat.{ℕ, zero, suc, _+_, _*_, zero-le, suc-le-suc}
 use native.Mathlib.Nat.{le-of-suc-le-suc, not-suc-le-zero}
 use native.Mathlib.Omega.{arith}
 use lib.Dec.{T, leb→le, le→leb, ltb→lt, lt→ltb}
-use lib.IntN.{ℤ, pos, negsuc, negℤ, sucℤ, predℤ, _+ℤ_, _-ℤ_, _*ℤ_, +ℤ-invr, +ℤ-idl, +ℤ-idr, -ℤ-+ℤ-cancel, +ℤ-sucℤ, +ℤ-predℤ, sucℤ-+ℤ, +ℤ-comm}
+use lib.IntN.{ℤ, pos, negsuc, negℤ, sucℤ, predℤ, _+ℤ_, _-ℤ_, _*ℤ_, +ℤ-invr, +ℤ-idl, +ℤ-idr, -ℤ-+ℤ-cancel, +ℤ-sucℤ, +ℤ-predℤ, sucℤ-+ℤ, +ℤ-comm, *ℤ-zero}
 use lib.Signed.{leZ, ltZ, _≤ℤ_, _<ℤ_}
 use Rattle.integers.proofs.Ring.{updown}
 
@@ -68,6 +68,12 @@ pub <-diff : {a b : ℤ} → a <ℤ b → pos 0 <ℤ (b -ℤ a)
 pub diff-< : {a b : ℤ} → pos 0 <ℤ (b -ℤ a) → a <ℤ b
 diff-< {a} {b} h = record { lt = suc-lt a b (subst (λ (x : ℤ). T (leZ x b)) (sucℤ-+ℤ (pos 0) a ∙ ap sucℤ (+ℤ-idl a)) (subst (λ (x : ℤ). T (leZ (pos 1 +ℤ a) x)) (-ℤ-+ℤ-cancel b a) (shift (pos 1) (b -ℤ a) a (lt-suc (pos 0) (b -ℤ a) (h .lt))))) }
 
+pub ≡-diff : {a b : ℤ} → a ≡ b → b -ℤ a ≡ pos 0
+≡-diff {a} {b} e = subst (λ (x : ℤ). x -ℤ a ≡ pos 0) e (+ℤ-invr a)
+
+pub diff-≡ : (a b : ℤ) → b -ℤ a ≡ pos 0 → a ≡ b
+diff-≡ a b e = sym (+ℤ-idl a) ∙ ap (λ (x : ℤ). x +ℤ a) (sym e) ∙ -ℤ-+ℤ-cancel b a
+
 -- ---- the signs
 pub nat : (n : ℕ) → pos 0 ≤ℤ pos n
 nat n = record { le = le→leb 0 n zero-le }
@@ -119,6 +125,16 @@ p*p {a} {b} h k = record { lt = pp′ a b (h .lt) (k .lt) }
 pub sq : (a : ℤ) → pos 0 ≤ℤ (a *ℤ a)
 sq (pos n) = nat (n * n)
 sq (negsuc n) = nat (suc n * suc n)
+
+-- ---- with numbers that are 0 (z)
+pub z+z : {a b : ℤ} → a ≡ pos 0 → b ≡ pos 0 → a +ℤ b ≡ pos 0
+z+z e f = λ i. e i +ℤ f i
+
+pub x*z : (a : ℤ) {b : ℤ} → b ≡ pos 0 → a *ℤ b ≡ pos 0
+x*z a e = ap (λ (x : ℤ). a *ℤ x) e ∙ *ℤ-zero a
+
+pub z→n : {a : ℤ} → a ≡ pos 0 → pos 0 ≤ℤ a
+z→n e = subst (λ (x : ℤ). pos 0 ≤ℤ x) (sym e) (nat 0)
 
 -- the sign of a sum of products, part by part: `search signs`
 pub ruleset signs = (n+n, n*n, sq, nat, <→≤, p+p, p+n, n+p, p*p)

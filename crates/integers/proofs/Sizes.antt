@@ -1,5 +1,5 @@
--- The size of a number: `natAbs` of sums, products and negations, and `Small A z` as two orders.
--- `small-of lo hi : Small A z` from negℤ (pos A) ≤ℤ z and z ≤ℤ pos A; back by `small-lo`, `small-hi`.
+-- The size `natAbs` of sums, products and negations; `Small A z`, a size at most A, as two orders.
+-- `small-of lo hi : Small A z`, from negℤ (pos A) ≤ℤ z and z ≤ℤ pos A; back by `small-lo`, `small-hi`; wider by `small-up`.
 -- `byte` below is the example. Assumes nothing.
 use mathlib.Core.Path.{_≡_, refl}
 use mathlib.Core.Bool.{Bool, true, false, not, cond}

@@ -1,5 +1,5 @@
 -- What a branch on signed numbers says. It leaves `ltZ a b ≡ true` (`c .if1 .taken`) or `≡ false` (`c .if1 .left`), of bits.
--- `m-yes (c .if1 .taken) (search ranged depth 60 fits 20000) tt : a <ℤ b`, and `m-no` the opposite order; `==` gives an equation or its denial. `search sized ..` where leaves have a `Small` fact.
+-- `m-yes (c .if1 .taken) (search ranged depth 60 fits 20000) tt : a <ℤ b`, and `m-no` of `.left` the opposite. A branch on `==`: `m-same`, `m-differ`.
 -- `under` below is the example. Assumes nothing.
 use mathlib.Core.Path.{_≡_, sym, ap, _∙_, subst}
 use mathlib.Core.Bool.{Bool, true, false, not, _&&_}
@@ -13,7 +13,7 @@ use mir.ValLaws.{toZ-ofZ}
 use mir.Facts.{toZ-inj}
 use Rattle.integers.proofs.Order.{leZ-no}
 use Rattle.integers.proofs.Machine.{Mach, and-l, and-r, m-small, m-kept, m-result, steps}
-use Rattle.integers.proofs.Unsigned.{m-unsigned}
+use Rattle.integers.proofs.Unsigned.{m-unsigned, s-size}
 
 pub record Test (t : Bool) : Type 1 where
   pub fine : Bool
@@ -85,9 +85,9 @@ t-eq w {a} {b} f g = record {
 pub ruleset tests = (t-lt, t-le, t-eq, i-fits, i-mag)
 
 -- `sized` wants a `Small` fact of every leaf, `ranged` only that it is in its type's range. Two sets: in one, `search` would take the second for the first
-pub ruleset sized = (tests, steps, m-small)
+pub ruleset sized = (tests, steps, m-small, s-size)
 
-pub ruleset ranged = (tests, steps, m-kept, m-result, m-unsigned)
+pub ruleset ranged = (tests, steps, m-kept, m-result, m-unsigned, s-size)
 
 under : (x y : ℤ) → SFits w64 x → SFits w64 y → ltZ (toZ w64 (ofZ w64 x)) (toZ w64 (ofZ w64 y)) ≡ true → x <ℤ y
 under x y f g h = m-yes h (search ranged depth 60 fits 20000) tt

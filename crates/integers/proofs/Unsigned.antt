@@ -1,8 +1,8 @@
--- Machine numbers that cross between unsigned and signed: `n as i64` of an unsigned n reads as `pos n`.
--- A `Fits` fact of n in scope is enough for `search ranged ..`; `m-under` takes n < A: `search (ranged, m-under) ..`. `m-cast w64 z (search ..) tt h` closes the need of `z as u64`, h : pos 0 ≤ℤ z.
+-- `n as i64` of an unsigned n reads as `pos n`: by a `Fits` fact of n, in `ranged`; or by n < A, with `search (sized, m-under) ..`.
+-- `z as u64` of a z at least 0 is `natAbs z`: `m-cast w64 z (search ..) tt h` closes its need, h : pos 0 ≤ℤ z; `m-size` reads the size itself.
 -- `byte-less-five` below is the example. Assumes nothing.
-use mathlib.Core.Path.{_≡_, sym, subst}
-use mathlib.Core.Bool.{_&&_}
+use mathlib.Core.Path.{_≡_, sym, ap, subst}
+use mathlib.Core.Bool.{Bool, _&&_}
 use Prim.Native.Nat.{ℕ, _^_, _<_}
 use native.Mathlib.Nat.{le-of-lt, lt-of-lt-of-le, lt-of-le-of-lt}
 use lib.Dec.{T, leb, leb→le, ltb, ltb→lt}
@@ -32,6 +32,18 @@ m-cast w z x t h =
     let b = and-r (x .good) (ltb (x .top) (2 ^ bits w)) t in
     let e = sym (x .is g) in
     (subst (λ (y : ℤ). T (nonNeg y)) e (yes-nonNeg h), subst (λ (y : ℤ). Fits w (natAbs y)) e (record { fits = lt-of-le-of-lt (x .ok g) (ltb→lt (x .top) (2 ^ bits w) b) }))
+
+-- a size that a call took of a signed number, as `c .size .ensures` has it: `c .size .ensures ∙ m-size (search ranged ..) tt`
+pub record Size (n : ℕ) : Type 0 where
+  pub plain : ℤ
+  pub good : Bool
+  pub is : T good → n ≡ natAbs plain
+
+abbrev pub s-size : (z : ℤ) → Mach z → Size (natAbs z)
+s-size z x = record { plain = x .plain; good = x .good; is = λ t. ap natAbs (x .is t) }
+
+pub m-size : {n : ℕ} (x : Size n) → T (x .good) → n ≡ natAbs (x .plain)
+m-size x t = x .is t
 
 byte-less-five : (n : ℕ) → Fits w8 n → toZ w64 (ofZ w64 (toZ w64 n -ℤ pos 5)) ≡ pos n -ℤ pos 5
 byte-less-five n h = m-eq (search (steps, m-unsigned) depth 60 fits 20000) tt
