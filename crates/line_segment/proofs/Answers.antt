@@ -1,6 +1,8 @@
 -- What the parts of the test answer, from what a branch of the code knows.
 use mathlib.Core.Path.{_≡_, refl, sym, ap, _∙_}
 use mathlib.Core.Bool.{Bool, true, false, cond, _&&_}
+use Rattle.orientation.specs.declared.Orientation.{Orientation}
+use Rattle.orientation.specs.Turn.{isStraight}
 use Rattle.fractions.specs.declared.Order.{Order}
 use Rattle.fractions.specs.declared.Order.the-variants.{Less, Equal, Greater}
 use Rattle.line_segment.specs.declared.EndPoint.{EndPoint}
@@ -9,11 +11,17 @@ use Rattle.line_segment.specs.declared.Meeting.{Meeting}
 use Rattle.line_segment.specs.declared.Meeting.the-variants.{Nothing, Crossing, Overlap}
 use Rattle.line_segment.specs.Piece.{pointOf, endOrder, joinOf}
 use Rattle.line_segment.specs.Geometry.{admits}
-use Rattle.line_segment.specs.Segment.{within, innerBetween, stretchBy, touchOf}
+use Rattle.line_segment.specs.Segment.{within, innerBetween, stretchBy, stretchOf, touchOf, turnTo, opposed, astrideOf, intersectOf}
 
-pub and-false : (x : Bool) {y : Bool} → y ≡ false → x && y ≡ false
+and-false : (x : Bool) {y : Bool} → y ≡ false → x && y ≡ false
 and-false true e = e
 and-false false e = refl
+
+and-true : {x y : Bool} → x ≡ true → y ≡ true → x && y ≡ true
+and-true h k = rw h k
+
+false-and : {x : Bool} (y : Bool) → x ≡ false → x && y ≡ false
+false-and y h = rw h
 
 module _ (p a b : EndPoint) {s : LineSegment} {o : Order} (j : s ≡ joinOf a b) (first : o ≡ endOrder (s .min) p) where
   pub between-then : admits o (s .min .included) ≡ true → {o′ : Order} → o′ ≡ endOrder p (s .max) → {r : Bool} → r ≡ admits o′ (s .max .included) → r ≡ innerBetween (pointOf p) a b
@@ -40,10 +48,7 @@ module _ (s : LineSegment) where
 module _ (e : EndPoint) (s : LineSegment) where
   pub touch-yes : e .included ≡ true → innerBetween (pointOf e) (s .min) (s .max) ≡ true → Crossing ≡ touchOf e s
   unfolding touchOf
-  touch-yes h k = rw (k, and-true-true h)
-    where
-      and-true-true : {x : Bool} → x ≡ true → x && true ≡ true
-      and-true-true h = rw h
+  touch-yes h k = rw (and-true h k)
 
   pub touch-outside : innerBetween (pointOf e) (s .min) (s .max) ≡ false → Nothing ≡ touchOf e s
   unfolding touchOf
@@ -51,4 +56,43 @@ module _ (e : EndPoint) (s : LineSegment) where
 
   pub touch-excluded : e .included ≡ false → Nothing ≡ touchOf e s
   unfolding touchOf
-  touch-excluded h = ap (λ (b : Bool). cond (b && innerBetween (pointOf e) (s .min) (s .max)) Crossing Nothing) (sym h)
+  touch-excluded h = rw (false-and (innerBetween (pointOf e) (s .min) (s .max)) h)
+
+module _ (a b : LineSegment) {o p : Orientation} (from : o ≡ turnTo a (b .min)) (to : p ≡ turnTo a (b .max)) where
+  pub both-on : isStraight o ≡ true → isStraight p ≡ true → stretchOf a b ≡ intersectOf a b
+  unfolding intersectOf
+  both-on h k = rw (← from, ← to, h, k)
+
+  pub min-on : isStraight o ≡ true → isStraight p ≡ false → touchOf (b .min) a ≡ intersectOf a b
+  unfolding intersectOf
+  min-on h k = rw (← from, ← to, h, k)
+
+  pub max-on : isStraight o ≡ false → isStraight p ≡ true → touchOf (b .max) a ≡ intersectOf a b
+  unfolding intersectOf
+  max-on h k = rw (← from, ← to, h, k)
+
+  pub none-on : isStraight o ≡ false → isStraight p ≡ false → astrideOf (opposed o p) a b ≡ intersectOf a b
+  unfolding intersectOf
+  none-on h k = rw (← from, ← to, h, k)
+
+module _ (s : Bool) (a b : LineSegment) {o p : Orientation} (from : o ≡ turnTo b (a .min)) (to : p ≡ turnTo b (a .max)) where
+  pub own-min-on : isStraight o ≡ true → touchOf (a .min) b ≡ astrideOf s a b
+  unfolding astrideOf
+  own-min-on h = rw (← from, ← to, h)
+
+  pub own-max-on : isStraight o ≡ false → isStraight p ≡ true → touchOf (a .max) b ≡ astrideOf s a b
+  unfolding astrideOf
+  own-max-on h k = rw (← from, ← to, h, k)
+
+  module _ (h : isStraight o ≡ false) (k : isStraight p ≡ false) where
+    pub crossed : s ≡ true → opposed o p ≡ true → Crossing ≡ astrideOf s a b
+    unfolding astrideOf
+    crossed x y = rw (← from, ← to, h, k, and-true x y)
+
+    pub not-astride : s ≡ false → Nothing ≡ astrideOf s a b
+    unfolding astrideOf
+    not-astride x = rw (← from, ← to, h, k, false-and (opposed o p) x)
+
+    pub one-side : opposed o p ≡ false → Nothing ≡ astrideOf s a b
+    unfolding astrideOf
+    one-side y = rw (← from, ← to, h, k, and-false s y)

@@ -64,19 +64,28 @@ touchOf e s = cond (e .included && innerBetween (pointOf e) (s .min) (s .max)) C
 unfoldable pub turnTo : LineSegment → EndPoint → Orientation
 turnTo s e = turnOf (det (s .min .x) (s .min .y) (s .max .x) (s .max .y) (e .x) (e .y))
 
+-- the Rust's o == p.reverse()
+unfoldable pub opposed : Orientation → Orientation → Bool
+opposed o p = sameTurn o (reversed p)
+
+-- no end of b on the line of a, whose two sides have one each or do not
+unfoldable pub astrideOf : Bool → LineSegment → LineSegment → Meeting
+astrideOf astride a b =
+    let aMin = turnTo b (a .min) in
+    let aMax = turnTo b (a .max) in
+    cond (isStraight aMin) (touchOf (a .min) b)
+    (cond (isStraight aMax) (touchOf (a .max) b)
+    (cond (astride && opposed aMin aMax) Crossing Nothing))
+
 -- "Otherwise `Crossing` if the lines' one common point belongs to both, else nothing."
 unfoldable pub intersectOf : LineSegment → LineSegment → Meeting
 intersectOf a b =
-    let aMin = turnTo b (a .min) in
-    let aMax = turnTo b (a .max) in
     let bMin = turnTo a (b .min) in
     let bMax = turnTo a (b .max) in
     cond (isStraight bMin && isStraight bMax) (stretchOf a b)
     (cond (isStraight bMin) (touchOf (b .min) a)
     (cond (isStraight bMax) (touchOf (b .max) a)
-    (cond (isStraight aMin) (touchOf (a .min) b)
-    (cond (isStraight aMax) (touchOf (a .max) b)
-    (cond (sameTurn bMin (reversed bMax) && sameTurn aMin (reversed aMax)) Crossing Nothing)))))
+    (astrideOf (opposed bMin bMax) a b)))
 
 -- "D stays below 2^33, X and Y below 2^48 in size." A point beyond that is on no piece
 unfoldable pub inBounds : Point → Bool

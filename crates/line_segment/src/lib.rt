@@ -3,7 +3,7 @@
 ghost use mathlib.Core.Path.{_≡_};
 ghost use Rattle.line_segment.specs.Piece.{pointOf, endOrder, joinOf, pieceOf};
 ghost use Rattle.line_segment.specs.Geometry.{admits};
-ghost use Rattle.line_segment.specs.Segment.{exclusiveOf, leftmostOf, rightmostOf, innerBetween, stretchOf, touchOf, turnTo, intersectOf};
+ghost use Rattle.line_segment.specs.Segment.{exclusiveOf, leftmostOf, rightmostOf, innerBetween, stretchOf, touchOf, turnTo, opposed, astrideOf, intersectOf};
 use fractions::Order;
 use orientation::Orientation;
 
@@ -167,4 +167,47 @@ pub fn turn_to(s: LineSegment, e: EndPoint) -> Orientation
     let from = s.min;
     let to = s.max;
     orientation::orient(from.x, from.y, to.x, to.y, e.x, e.y)
+}
+
+// Whether two ends lie on opposite sides.
+pub fn opposite(o: Orientation, p: Orientation) -> bool
+    ensures { λ r. ⌜ r ≡ opposed o p ⌝ }
+{
+    orientation::same(o, orientation::reverse(p))
+}
+
+// No end of b on the line of a; `astride` says whether its ends lie on opposite sides of it.
+pub fn cross(astride: bool, a: LineSegment, b: LineSegment) -> Meeting
+    ensures { λ r. ⌜ r ≡ astrideOf astride a b ⌝ }
+{
+    let from = turn_to(b, a.min);
+    let to = turn_to(b, a.max);
+    if orientation::is_colinear(from) {
+        touch(a.min, b)
+    } else if orientation::is_colinear(to) {
+        touch(a.max, b)
+    } else if astride && opposite(from, to) {
+        Meeting::Crossing
+    } else {
+        Meeting::Nothing
+    }
+}
+
+// Where two pieces meet.
+pub fn intersect(a: LineSegment, b: LineSegment) -> Meeting
+    ensures { λ r. ⌜ r ≡ intersectOf a b ⌝ }
+{
+    let from = turn_to(a, b.min);
+    let to = turn_to(a, b.max);
+    if orientation::is_colinear(from) {
+        if orientation::is_colinear(to) {
+            stretch(a, b)
+        } else {
+            touch(b.min, a)
+        }
+    } else if orientation::is_colinear(to) {
+        touch(b.max, a)
+    } else {
+        cross(opposite(from, to), a, b)
+    }
 }

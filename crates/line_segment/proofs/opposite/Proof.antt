@@ -1,0 +1,20 @@
+-- `line_segment::opposite` meets its contract: the one turn is the other reversed.
+use borrow.Author.Needs.{needs}
+use mathlib.Core.Path.{_∙_, ap}
+use Rattle.orientation.specs.Turn.{sameTurn}
+use Rattle.line_segment.specs.Segment.{opposed}
+use Rattle.line_segment.proofs.opposite.Statement.{statement}
+use Rattle.line_segment.proofs.opposite.Tie as tie
+
+reverse-requires : tie.Need-reverse-requires
+reverse-requires c κs = search needs
+
+same-requires : tie.Need-same-requires
+same-requires c κs = search needs
+
+returns : tie.Need-returns
+unfolding opposed
+returns c = c .same .ensures ∙ rw (c .before .reverse .ensures)
+
+pub opposite-spec : {M : Type 1} → statement M
+opposite-spec = tie.close (tie.spec reverse-requires same-requires returns)
