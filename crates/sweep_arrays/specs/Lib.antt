@@ -5,3 +5,4 @@ pub mod Insertion
 pub mod Ledger
 pub mod Event
 pub mod Run
+pub mod Agreement
