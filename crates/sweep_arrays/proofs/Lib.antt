@@ -1,2 +1,5 @@
 pub mod Distinct
 pub mod Cells
+pub mod Flat
+pub mod Marking
+pub mod Listing
