@@ -3,3 +3,5 @@ pub mod Cells
 pub mod Flat
 pub mod Marking
 pub mod Listing
+pub mod Order
+pub mod Waiting

@@ -37,12 +37,13 @@ module _ (C : Chart) where
   once-snoc l q o v new =
       record {
         pieces = λ r m. ⊎-elim (λ (h : In r l). o .pieces r h) (λ (h : In r (q ∷ [])). own r h) (List·Memᴰ·append-cases l m);
-        once = pairwise-append _ l (q ∷ []) (o .once) (λ y m. elim m [ ], tt) (λ x y m k e. apart x y m k e)
+        once = pairwise-append _ l (q ∷ []) (o .once) (λ y m. elim m [ ], tt) (λ x y m k e. apart x y m k e);
       }
     where
       own : (r : Pair) → In r (q ∷ []) → Pieces C r
       own r (here e) = rw e v
       own r (there h) = elim h [ ]
+
       apart : (x y : Pair) → In x l → In y (q ∷ []) → x ≡ y → ⊥
       apart x y m (here f) e = new (subst (λ (z : Pair). In z l) (e ∙ f) m)
       apart x y m (there h) e = elim h [ ]
@@ -63,8 +64,14 @@ module _ (C : Chart) where
       (q : Pair) (v : Pieces C q) (new : ¬ In q (m .listed)) where
     fits : length (flat (m .listed)) + 1 < length lent
     fits =
-        omega (arith, once-room (m .listed ++ (q ∷ [])) (once-snoc (m .listed) q (H .listed-once) v new), length-append (m .listed) (q ∷ []),
-          flat-length (m .listed), flat-length (all C), R .lists)
+        omega (
+          arith,
+          once-room (m .listed ++ (q ∷ [])) (once-snoc (m .listed) q (H .listed-once) v new),
+          length-append (m .listed) (q ∷ []),
+          flat-length (m .listed),
+          flat-length (all C),
+          R .lists,
+        )
 
     bytes-long : length (s .bytes) ≡ length lent
     bytes-long =
@@ -86,9 +93,9 @@ module _ (C : Chart) where
     marks-are r w =
         ⊎-elim
         (λ (e : r ≡ q).
-          ap (λ (z : Pair). getD (set (s .marks) (cell q) 2) (cell z) 0) e
-          ∙ set-own C (R .few) (s .marks) (H .marks-long) q v 2
-          ∙ sym (unfold list in markOf-listed (list q m) r (subst (λ (z : Pair). In z (m .listed ++ (q ∷ []))) (sym e) (Memᴰ·append-right (m .listed) (here refl)))))
+        ap (λ (z : Pair). getD (set (s .marks) (cell q) 2) (cell z) 0) e
+        ∙ set-own C (R .few) (s .marks) (H .marks-long) q v 2
+        ∙ sym (unfold list in markOf-listed (list q m) r (subst (λ (z : Pair). In z (m .listed ++ (q ∷ []))) (sym e) (Memᴰ·append-right (m .listed) (here refl)))))
         (λ (d : r ≢ q). set-others C (R .few) (s .marks) (H .marks-long) q v 2 r w d ∙ H .marks-are r w ∙ sym (markOf-other m q r d))
         (same-or-not r q)
 
@@ -99,14 +106,14 @@ module _ (C : Chart) where
           waiting-is = H .waiting-is;
           spare-is = H .spare-is;
           bytes-are =
-            rw (room, H .bytes-are, H .end-is)
-            (two-more (flat (m .listed)) lent (length (flat (m .listed))) (q .0) (q .1) refl fits
-            ∙ sym (rw (snoc-length, flat-snoc) refl));
+              rw (room, H .bytes-are, H .end-is)
+              (two-more (flat (m .listed)) lent (length (flat (m .listed))) (q .0) (q .1) refl fits
+              ∙ sym (rw (snoc-length, flat-snoc) refl));
           end-is = rw room (omega (arith, H .end-is, snoc-length));
           marks-long = length-set (s .marks) (cell q) 2 ∙ H .marks-long;
           marks-are = marks-are;
           waiting-once = H .waiting-once;
           waiting-cross = H .waiting-cross;
           waiting-up = H .waiting-up;
-          listed-once = once-snoc (m .listed) q (H .listed-once) v new
+          listed-once = once-snoc (m .listed) q (H .listed-once) v new;
         }

@@ -37,7 +37,7 @@ module _ (C : Chart) where
     pub less-trans : (p q r : Point) → Fit p → Fit q → Fit r → less p q ≡ true → less q r ≡ true → less p r ≡ true
     pub less-same : (p q : Point) → Fit p → Fit q → less p q ≡ false → less q p ≡ false → p ≡ q
     pub before-trans : (p : Point) → Fit p → (i j k : ℕ) → i < n → j < n → k < n
-      → before p i j ≡ true → before p j k ≡ true → before p i k ≡ true
+        → before p i j ≡ true → before p j k ≡ true → before p i k ≡ true
 
   -- pairs of pieces, each once
   pub record Once (l : List Pair) : Type 0 where
