@@ -90,9 +90,9 @@ fn gate() -> Vec<Family> {
     kept(),
     tiny(),
     random("degenerate", GATE_SEED, 20_000, charts::degenerate),
-    random("extreme", GATE_SEED, 5_000, charts::extreme),
-    random("near-tied", GATE_SEED, 5_000, charts::near_ties),
-    random("any-size", GATE_SEED, 500, charts::any_size),
+    random("extreme", GATE_SEED, 3_000, charts::extreme),
+    random("near-tied", GATE_SEED, 2_000, charts::near_ties),
+    random("any-size", GATE_SEED, 300, charts::any_size),
     random("full-size", GATE_SEED, 1_000, charts::full_size),
   ]
 }
