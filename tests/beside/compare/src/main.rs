@@ -89,7 +89,7 @@ fn gate() -> Vec<Family> {
   vec![
     kept(),
     tiny(),
-    random("degenerate", GATE_SEED, 20_000, charts::degenerate),
+    random("degenerate", GATE_SEED, 17_000, charts::degenerate),
     random("extreme", GATE_SEED, 3_000, charts::extreme),
     random("near-tied", GATE_SEED, 2_000, charts::near_ties),
     random("any-size", GATE_SEED, 300, charts::any_size),
