@@ -1,10 +1,17 @@
--- `Numbers`: tests on signed numbers in code. `Rows`: what the tests of `faultOf` say. `Pieces`: how the verdict grows.
--- `Exactly`: the proof of specs/Demand. `Room`: laws of n(n-1). `Once`: each contract allows one result.
+-- From another crate: `use Rattle.charts.proofs.FILE.{..}`.
+--   what is known of an accepted list              Accepted    accepted-most, pieces-as-given, pieces-have-length
+--   the verdict where pairs are written down       Listing     listing-refused, listing-eight, listing-accepted
+--   room, n(n-1), without a product                Room        room-more, room-below, room-least
+--   statements of specs/Demand                     Rows, Exactly, Listing, Ten, Accepted
+--   code: tests on signed numbers, casts           Numbers, Ranges
 pub mod Rows
 pub mod Numbers
 pub mod Ranges
 pub mod Pieces
 pub mod Exactly
 pub mod Room
+pub mod Accepted
 pub mod Listing
+pub mod Ten
+pub mod Upright
 pub mod Once

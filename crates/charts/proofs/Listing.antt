@@ -7,9 +7,9 @@ use Prim.Native.Nat.{ℕ, _≤_, _<_}
 use borrow.Author.Tests.{lt-ltb, le-ltb, ltb-true, ltb-false}
 use lib.Dec.{ltb}
 use lib.IntN.{ℤ}
-use Rattle.charts.specs.Chart.{most, verdictOf}
+use Rattle.charts.specs.Chart.{verdictOf}
 use Rattle.charts.specs.Answer.{room, thenRoom, listingOf}
-use Rattle.charts.specs.Demand.{Due, done, ListingDue, refused, eight, listed, ListingRefusesExactly}
+use Rattle.charts.specs.Demand.{ListingDue, refused, eight, listed, ListingRefusesExactly}
 use Rattle.charts.specs.declared.Verdict.{Verdict}
 use Rattle.charts.specs.declared.Verdict.the-variants.{Accepted, Refused}
 use Rattle.charts.proofs.Exactly.{refuses-exactly}
@@ -26,13 +26,6 @@ module _ (list : List ℤ) (lent : ℕ) where
   pub listing-accepted : (n : ℕ) → verdictOf list ≡ Accepted n → room n ≤ lent → listingOf list lent ≡ Accepted n
   unfolding listingOf
   listing-accepted n e h = rw (e, le-ltb _ _ h)
-
--- an accepted list has at most 64 pieces
-pub accepted-most : (list : List ℤ) (n : ℕ) → verdictOf list ≡ Accepted n → n ≤ most
-accepted-most list n e = go (refuses-exactly list (Accepted n) .0 e)
-  where
-    go : Due list (Accepted n) → n ≤ most
-    go (done n q h s) = h
 
 module _ (list : List ℤ) (lent : ℕ) where
   given : (v : Verdict) → ListingDue list lent v → listingOf list lent ≡ v

@@ -6,8 +6,8 @@ use Prim.Native.Nat.{_<_, _^_}
 use lib.Dec.{eqb}
 use lib.IntN.{ℤ}
 use lib.Signed.{mag, ltZ}
-use mir.Syntax.{w32}
-use mir.Val.{SFits, ofZ, toZ}
+use mir.Syntax.{Width, w32}
+use mir.Val.{SFits, hbits, ofZ, toZ}
 use mir.Facts.{toZ-ofZ}
 use Rattle.integers.proofs.Tests.{m-yes, m-no, t-eq, i-fits}
 use Rattle.charts.specs.Fault.{eqZ}
@@ -35,13 +35,14 @@ module _ {y z : ℤ} (f : SFits w32 y) (g : SFits w32 z) where
   lt-kept = rw (toZ-ofZ f, toZ-ofZ g)
 
 -- two numbers are the same where their bits are
-pub eq-bits : (a b : ℤ) → SFits w32 a → SFits w32 b → eqb (ofZ w32 a) (ofZ w32 b) ≡ eqZ a b
-eq-bits a b f g = go (eqb (ofZ w32 a) (ofZ w32 b)) refl
-  where
-    go : (t : Bool) → eqb (ofZ w32 a) (ofZ w32 b) ≡ t → eqb (ofZ w32 a) (ofZ w32 b) ≡ eqZ a b
-    go true e = e ∙ sym (is-true (says-eq a b) (m-yes e (t-eq w32 (i-fits f) (i-fits g)) tt))
-    go false e = e ∙ sym (is-false (says-eq a b) (m-no e (t-eq w32 (i-fits f) (i-fits g)) tt))
+module _ (w : Width) (a b : ℤ) (f : SFits w a) (g : SFits w b) where
+  pub eq-bits : eqb (ofZ w a) (ofZ w b) ≡ eqZ a b
+  eq-bits = go (eqb (ofZ w a) (ofZ w b)) refl
+    where
+      go : (t : Bool) → eqb (ofZ w a) (ofZ w b) ≡ t → eqb (ofZ w a) (ofZ w b) ≡ eqZ a b
+      go true e = e ∙ sym (is-true (says-eq a b) (m-yes e (t-eq w (i-fits f) (i-fits g)) tt))
+      go false e = e ∙ sym (is-false (says-eq a b) (m-no e (t-eq w (i-fits f) (i-fits g)) tt))
 
 -- a callee's answer, passed on
-pub told : (r : ℤ) {z : ℤ} → mag r < 2 ^ 31 → r ≡ z → toZ w32 (ofZ w32 r) ≡ z
-told r h e = toZ-ofZ {w = w32} {z = r} (record { sfits = h }) ∙ e
+pub told : (w : Width) (r : ℤ) {z : ℤ} → mag r < 2 ^ hbits w → r ≡ z → toZ w (ofZ w r) ≡ z
+told w r h e = toZ-ofZ {w = w} {z = r} (record { sfits = h }) ∙ e

@@ -7,9 +7,12 @@ use Prim.Native.Nat.{ℕ, suc, _*_, _<_, _≤_}
 use lib.IntN.{ℤ, pos, negℤ}
 use lib.ListN.{length}
 use lib.Signed.{_<ℤ_}
+use Rattle.line_segment.specs.Piece.{pieceOf, HasLength}
 use Rattle.charts.specs.Fault.{range, faultOf}
 use Rattle.charts.specs.Chart.{most, numberAt, verdictOf}
+use Rattle.charts.specs.Piece.{pieceAt}
 use Rattle.charts.specs.Answer.{room, listingOf}
+use Rattle.charts.specs.Pair.{pairVerdictOf}
 use Rattle.charts.specs.declared.Verdict.{Verdict}
 use Rattle.charts.specs.declared.Verdict.the-variants.{Accepted, Refused}
 
@@ -69,8 +72,28 @@ module _ (list : List ℤ) where
     eight : (n : ℕ) → Due (Accepted n) → lent < room n → ListingDue lent (Refused 8 0)
     listed : (n : ℕ) → Due (Accepted n) → room n ≤ lent → ListingDue lent (Accepted n)
 
+  -- "9: .. in a pair call, [the length] is not ten"
+  pub data PairDue : Verdict → Type 0 where
+    not-ten : ¬ (length list ≡ 10) → PairDue (Refused 9 0)
+    ten : length list ≡ 10 → (v : Verdict) → Due v → PairDue v
+
 abbrev pub RefusesExactly : Type 0
 RefusesExactly = (list : List ℤ) (v : Verdict) → (verdictOf list ≡ v) ↔ Due list v
 
 abbrev pub ListingRefusesExactly : Type 0
 ListingRefusesExactly = (list : List ℤ) (lent : ℕ) (v : Verdict) → (listingOf list lent ≡ v) ↔ ListingDue list lent v
+
+abbrev pub PairRefusesExactly : Type 0
+PairRefusesExactly = (list : List ℤ) (v : Verdict) → (pairVerdictOf list ≡ v) ↔ PairDue list v
+
+-- ---- the pieces of an accepted list
+-- "A piece is five whole numbers: kind, x1, y1, x2, y2": piece i is made of the numbers as they stand
+abbrev pub PiecesAsGiven : Type 0
+PiecesAsGiven =
+    (list : List ℤ) (n i : ℕ) → verdictOf list ≡ Accepted n → i < n
+    → (kind : ℕ) × (numberAt list i 0 ≡ pos kind)
+    × (pieceAt list i ≡ pieceOf kind (numberAt list i 1) (numberAt list i 2) (numberAt list i 3) (numberAt list i 4))
+
+-- "A piece of no length is refused"
+abbrev pub PiecesHaveLength : Type 0
+PiecesHaveLength = (list : List ℤ) (n i : ℕ) → verdictOf list ≡ Accepted n → i < n → HasLength (pieceAt list i)

@@ -1,8 +1,10 @@
--- What is right of a chart that is given as a list of numbers: `Fault` judges one piece, `Chart` the list, `Answer` gives
--- the numbers and counts that calls return, and `Demand` states what is promised.
+-- What is right of a chart that is given as a list of numbers: `Fault` judges one piece, `Chart` the list, `Piece` makes its
+-- pieces, `Answer` gives the numbers and counts that calls return, `Pair` is for the calls on two pieces. `Demand` states what
+-- is promised, and `Outcome` that a contract allows one result.
 pub mod Fault
 pub mod Chart
+pub mod Piece
 pub mod Answer
+pub mod Pair
 pub mod Demand
 pub mod Outcome
-pub mod Piece

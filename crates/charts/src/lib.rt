@@ -2,8 +2,10 @@ ghost use mathlib.Core.Path.{_≡_};
 ghost use Prim.Native.Nat.{_<_, _≤_};
 ghost use Rattle.charts.specs.Fault.{outside, offRange, eqZ, sameEnds, faultOf};
 ghost use Rattle.charts.specs.Chart.{most, numberAt, faultAt, verdictOf};
-ghost use Rattle.charts.specs.Piece.{kindOf, coordinateOf};
+ghost use Rattle.charts.specs.Piece.{kindOf, coordinateOf, pieceAt, isUpright, noUpright};
 ghost use Rattle.charts.specs.Answer.{doneWith, refusedWith, room, listingOf};
+ghost use Rattle.charts.specs.Pair.{pairVerdictOf};
+use line_segment::LineSegment;
 
 // A chart has at most so many pieces.
 pub const MOST: usize = 64;
@@ -161,20 +163,65 @@ pub fn listing_of(list: &[i32], lent: usize) -> Verdict
     }
 }
 
-fn kind_of(v: i32) -> u8
-    ensures { λ r. ⌜ r ≡ kindOf v ⌝ }
+fn kind_at(list: &[i32], i: usize) -> u8
+    ensures { λ r. ⌜ r ≡ kindOf (numberAt (now (list .entry)) i 0) ⌝ }
 {
+    let v = number_at(list, i, 0);
     if is_outside(0, 3, v) {
         return 0;
     }
     v as u8
 }
 
-fn coordinate_of(v: i32) -> i16
-    ensures { λ r. ⌜ r ≡ coordinateOf v ⌝ }
+fn coordinate_at(list: &[i32], i: usize, k: usize) -> i16
+    requires { ⌜ k < 5 ⌝ }
+    ensures { λ r. ⌜ r ≡ coordinateOf (numberAt (now (list .entry)) i k) ⌝ }
 {
+    let v = number_at(list, i, k);
     if is_outside(-RANGE, RANGE, v) {
         return 0;
     }
     v as i16
+}
+
+// Piece i of a list. A number that is missing or out of range counts as 0; an accepted list has none.
+pub fn piece_at(list: &[i32], i: usize) -> LineSegment
+    ensures { λ r. ⌜ r ≡ pieceAt (now (list .entry)) i ⌝ }
+{
+    let kind = kind_at(list, i);
+    let x1 = coordinate_at(list, i, 1);
+    let y1 = coordinate_at(list, i, 2);
+    let x2 = coordinate_at(list, i, 3);
+    let y2 = coordinate_at(list, i, 4);
+    line_segment::piece(kind, x1, y1, x2, y2)
+}
+
+pub fn is_upright(s: LineSegment) -> bool
+    ensures { λ r. ⌜ r ≡ isUpright s ⌝ }
+{
+    let a = s.min;
+    let b = s.max;
+    a.x == b.x
+}
+
+// Whether no piece below n is upright.
+pub fn no_upright(list: &[i32], n: usize) -> bool
+    ensures { λ r. ⌜ r ≡ noUpright (now (list .entry)) n ⌝ }
+{
+    for i in 0..n {
+        if is_upright(piece_at(list, i)) {
+            return false;
+        }
+    }
+    true
+}
+
+// The verdict on a list of two pieces.
+pub fn pair_verdict_of(list: &[i32]) -> Verdict
+    ensures { λ r. ⌜ r ≡ pairVerdictOf (now (list .entry)) ⌝ }
+{
+    if list.len() != 10 {
+        return Verdict::Refused(9, 0);
+    }
+    verdict_of(list)
 }

@@ -1,9 +1,10 @@
+use mir.Syntax.{w32}
 use Rattle.charts.proofs.Numbers.{eq-bits}
 use Rattle.charts.proofs.is_same.Statement.{statement}
 use Rattle.charts.proofs.is_same.Tie as tie
 
 returns : tie.Need-returns
-returns c = eq-bits (c .args .a) (c .args .b) (c .fits .a) (c .fits .b)
+returns c = eq-bits w32 (c .args .a) (c .args .b) (c .fits .a) (c .fits .b)
 
 pub is-same-spec : {M : Type 1} → statement M
 is-same-spec = tie.close (tie.spec returns)

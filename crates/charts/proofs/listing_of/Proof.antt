@@ -2,7 +2,8 @@ use borrow.Author.Needs.{needs}
 use mathlib.Core.Path.{_≡_, sym, _∙_}
 use Rattle.charts.specs.Chart.{verdictOf}
 use Rattle.charts.specs.declared.Verdict.the-variants.{Accepted}
-use Rattle.charts.proofs.Listing.{listing-refused, listing-eight, listing-accepted, accepted-most}
+use Rattle.charts.proofs.Listing.{listing-refused, listing-eight, listing-accepted}
+use Rattle.charts.proofs.Accepted.{accepted-most}
 use Rattle.charts.proofs.listing_of.Statement.{statement}
 use Rattle.charts.proofs.listing_of.Tie as tie
 
