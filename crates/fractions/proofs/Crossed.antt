@@ -1,8 +1,8 @@
 -- The order of two fractions from the order of the sizes of their cross-products, for each pair of signs.
-use mathlib.Core.Path.{_≡_, sym, ap, ap₂, _∙_, subst⁻¹}
-use mathlib.Core.Bool.{Bool, true, false, cond}
+use mathlib.Core.Path.{_≡_, sym, ap, ap₂, _∙_}
+use mathlib.Core.Bool.{true, false}
 use Prim.Native.Nat.{ℕ, _*_}
-use lib.IntN.{ℤ, pos, negℤ, _*ℤ_, negℤ-negℤ}
+use lib.IntN.{ℤ, pos, negℤ, _*ℤ_}
 use Rattle.integers.proofs.Ring.{neg-*ℤ}
 use Rattle.integers.proofs.Order.{neg-<}
 use Rattle.fractions.specs.Order.{order, turned}

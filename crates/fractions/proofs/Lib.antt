@@ -14,3 +14,4 @@ pub mod Quotient
 pub mod Crossed
 pub mod Halves
 pub mod Borrow
+pub mod Promises

@@ -1,18 +1,18 @@
 -- A point divided by the greatest common divisor of its three numbers.
-use mathlib.Core.Path.{_≡_, refl, sym, ap, _∙_, subst}
+use mathlib.Core.Path.{_≡_, sym, ap, _∙_, subst}
 use mathlib.Core.List.{[], _∷_}
-use Prim.Native.Nat.{ℕ, zero, suc, _*_, _/_, _^_, _<_, _≤_, _∣_}
+use Prim.Native.Nat.{ℕ, zero, suc, _*_, _^_, _<_, _≤_, _∣_}
 use native.Mathlib.Nat.{lt-of-le-of-lt, zero-mul, one-mul, div-zero, div-le-self, div-mul-cancel, dvd-trans, dvd-antisymm, dvd-mul-left, dvd-mul-right, mul-dvd-mul-right, dvd-of-mul-dvd-mul-right, pos-of-dvd-of-pos, eq-one-of-dvd-one, eq-zero-of-zero-dvd}
 use native.Mathlib.Omega.{arith}
 use lib.Dec.{lit<}
-use lib.IntN.{ℤ, pos, negsuc, natAbs, _+ℤ_, _-ℤ_, _*ℤ_}
+use lib.IntN.{ℤ, pos, negsuc, natAbs, _*ℤ_}
 use lib.Signed.{quotZ}
 use Rattle.integers.proofs.Identity.{by-ring, terms}
 use Rattle.integers.proofs.Factors.{*-cancel-≡}
 use Rattle.integers.proofs.Sizes.{abs-*}
 use Rattle.integers.proofs.Naturals.{pos-injective}
 use Rattle.integers.proofs.Ring.{*ℤ-idr}
-use Rattle.fractions.specs.Divisor.{Greatest, gcdOf}
+use Rattle.fractions.specs.Divisor.{gcdOf}
 use Rattle.fractions.specs.Point.{Lowest, Bounded, pointOrder, common, lowestOf, wholeOf}
 use Rattle.fractions.specs.declared.Order.the-variants.{Equal}
 use Rattle.fractions.specs.declared.Point.{Point}

@@ -1,9 +1,9 @@
 -- The order of points, by x and then by y: what it says (`places`, `placed`), and its laws for points over positive numbers.
 -- A point's `positive` of `Lowest` is what they ask for.
-use mathlib.Core.Path.{_≡_, refl, sym, ap, ap₂, _∙_, subst}
+use mathlib.Core.Path.{_≡_, refl, sym, ap, ap₂, _∙_}
 use Prim.Native.Nat.{ℕ, _<_}
 use native.Mathlib.Omega.{arith}
-use lib.IntN.{ℤ, pos, _*ℤ_}
+use lib.IntN.{pos, _*ℤ_}
 use lib.Signed.{_<ℤ_}
 use Rattle.fractions.specs.Order.{order, turned, andThen}
 use Rattle.fractions.specs.Fraction.{ratioOrder}

@@ -1,7 +1,7 @@
 -- The g-th part of a whole number, rounded toward 0: its size, its sign, and when g times it is the number again.
-use mathlib.Core.Path.{_≡_, refl, sym, ap, _∙_}
+use mathlib.Core.Path.{_≡_, refl, ap, _∙_}
 use mathlib.Core.Bool.{cond}
-use Prim.Native.Nat.{ℕ, zero, suc, _*_, _/_, _≤_, _<_, _^_, _∣_}
+use Prim.Native.Nat.{ℕ, suc, _/_, _≤_, _<_, _^_, _∣_}
 use native.Mathlib.Nat.{div-mul-cancel, div-lt-iff-lt-mul}
 use native.Mathlib.Omega.{arith}
 use lib.Dec.{leb·suc-zero}

@@ -3,3 +3,4 @@ pub mod Fraction
 pub mod Limbs
 pub mod Divisor
 pub mod Point
+pub mod Demand

@@ -1,18 +1,12 @@
 -- `fractions::compare` meets its contract: the products are the sizes of the two sides, and their signs are those of the fractions.
 use borrow.Author.Needs.{needs}
-use mathlib.Core.Path.{_≡_, ap, ap₂, _∙_}
+use mathlib.Core.Path.{ap, ap₂, _∙_}
 use Prim.Native.Nat.{ℕ}
 use lib.IntN.{pos, negℤ}
 use Rattle.fractions.specs.Order.{order, turned}
 use Rattle.fractions.proofs.Crossed.{both-below, first-below, second-below, none-below}
 use Rattle.fractions.proofs.compare.Statement.{statement}
 use Rattle.fractions.proofs.compare.Tie as tie
-use Rattle.fractions.proofs.compare.Reads as reads
-use Rattle.fractions.proofs.compare.Lts as lts
-use Rattle.fractions.proofs.limbs.compare.Reads as compare-reads
-use Rattle.fractions.proofs.limbs.compare_across.Reads as compare-across-reads
-use Rattle.fractions.proofs.limbs.product.Reads as product-reads
-use Rattle.fractions.proofs.turn.Reads as turn-reads
 
 product-requires : tie.Need-product-requires
 product-requires c κs = search needs

@@ -8,9 +8,6 @@ use Rattle.fractions.specs.Fraction.{ratioOrder}
 use Rattle.fractions.proofs.Points.{by-x}
 use Rattle.fractions.proofs.compare_points.Statement.{statement}
 use Rattle.fractions.proofs.compare_points.Tie as tie
-use Rattle.fractions.proofs.compare_points.Reads as reads
-use Rattle.fractions.proofs.compare_points.Lts as lts
-use Rattle.fractions.proofs.compare_ratios.Reads as compare-ratios-reads
 
 compare-ratios-requires : tie.Need-compare-ratios-requires
 compare-ratios-requires c κs = search needs

@@ -1,16 +1,11 @@
 -- `fractions::compare_ratios` meets its contract: the two fractions are x over d and y over e.
 use borrow.Author.Needs.{needs}
-use mathlib.Core.Path.{_≡_, ap, _∙_}
-use Rattle.fractions.specs.Fraction.{ratioOrder, fractionOrder}
+use mathlib.Core.Path.{_∙_}
 use Rattle.fractions.proofs.Crossed.{of-ratios}
 use Rattle.integers.proofs.Machine.{m-eq}
 use Rattle.integers.proofs.Tests.{ranged}
 use Rattle.fractions.proofs.compare_ratios.Statement.{statement}
 use Rattle.fractions.proofs.compare_ratios.Tie as tie
-use Rattle.fractions.proofs.compare_ratios.Reads as reads
-use Rattle.fractions.proofs.compare_ratios.Lts as lts
-use Rattle.fractions.proofs.compare.Reads as compare-reads
-use Rattle.fractions.proofs.ratio.Reads as ratio-reads
 
 ratio-requires : tie.Need-ratio-requires
 ratio-requires c κs = search needs

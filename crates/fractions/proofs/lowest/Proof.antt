@@ -1,8 +1,7 @@
 -- `fractions::lowest` meets its contract: by a divisor below 2 nothing changes, by any other each number is divided.
 use borrow.Author.Needs.{needs}
 use mathlib.Core.Path.{_≡_, refl, ap, ap₂, _∙_}
-use Prim.Native.Nat.{ℕ, _/_, _<_}
-use native.Mathlib.Omega.{arith}
+use Prim.Native.Nat.{ℕ, _/_}
 use lib.IntN.{ℤ, pos, natAbs}
 use lib.Signed.{quotZ}
 use mir.Syntax.{w64}
@@ -14,11 +13,6 @@ use Rattle.fractions.proofs.Quotient.{same-record}
 use Rattle.fractions.proofs.LowestTerms.{already-lowest}
 use Rattle.fractions.proofs.lowest.Statement.{statement}
 use Rattle.fractions.proofs.lowest.Tie as tie
-use Rattle.fractions.proofs.lowest.Reads as reads
-use Rattle.fractions.proofs.lowest.Lts as lts
-use Rattle.fractions.proofs.gcd.Reads as gcd-reads
-use Rattle.fractions.proofs.part.Reads as part-reads
-use Rattle.integers.proofs.size.Reads as size-reads
 
 -- the divisor found, and the numbers read back from their bits
 module _ (c : tie.After-gcd2) where

@@ -1,10 +1,10 @@
 -- `fractions::part` meets its contract: a half or less of an i64 has room, with either sign.
 use borrow.Author.Needs.{needs}
-use mathlib.Core.Path.{_≡_, ap, _∙_, sym}
-use Prim.Native.Nat.{ℕ, _/_, _<_, _^_, _≤_}
+use mathlib.Core.Path.{_≡_, ap, _∙_}
+use Prim.Native.Nat.{ℕ, _/_, _<_}
 use native.Mathlib.Omega.{arith}
 use lib.IntN.{ℤ, pos, negℤ, natAbs, +ℤ-idl}
-use lib.Signed.{quotZ, natAbs-le, _<ℤ_}
+use lib.Signed.{natAbs-le}
 use mir.Syntax.{w64}
 use mir.ValLaws.{toZ-ofZ}
 use Rattle.integers.proofs.Machine.{m-fits, m-eq}
@@ -13,9 +13,6 @@ use Rattle.integers.proofs.Unsigned.{m-under}
 use Rattle.fractions.proofs.Quotient.{half, quot-below, quot-not-below}
 use Rattle.fractions.proofs.part.Statement.{statement}
 use Rattle.fractions.proofs.part.Tie as tie
-use Rattle.fractions.proofs.part.Reads as reads
-use Rattle.fractions.proofs.part.Lts as lts
-use Rattle.integers.proofs.size.Reads as size-reads
 
 size-requires : tie.Need-size-requires
 size-requires c κs = search needs

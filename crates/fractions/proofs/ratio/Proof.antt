@@ -9,15 +9,10 @@ use Rattle.fractions.specs.Fraction.{above}
 use Rattle.fractions.proofs.Quotient.{sign-size}
 use Rattle.fractions.proofs.ratio.Statement.{statement}
 use Rattle.fractions.proofs.ratio.Tie as tie
-use Rattle.fractions.proofs.ratio.Reads as reads
-use Rattle.fractions.proofs.ratio.Lts as lts
-use Rattle.integers.proofs.size.Reads as size-reads
 
--- src/lib.rt:123:15
 size-requires : tie.Need-size-requires
 size-requires c κs = search needs
 
--- src/lib.rt:118:1
 returns : tie.Need-returns
 unfolding above
 returns c =

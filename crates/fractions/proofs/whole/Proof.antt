@@ -5,18 +5,13 @@ use Rattle.integers.proofs.Tests.{ranged}
 use Rattle.fractions.proofs.Quotient.{same-record}
 use Rattle.fractions.proofs.whole.Statement.{statement}
 use Rattle.fractions.proofs.whole.Tie as tie
-use Rattle.fractions.proofs.whole.Reads as reads
-use Rattle.fractions.proofs.whole.Lts as lts
 
--- src/lib.rt:101:12
 cast-t3 : tie.Need-cast-t3
 cast-t3 c = m-fits (search ranged depth 60 fits 20000) tt
 
--- src/lib.rt:102:12
 cast-t4 : tie.Need-cast-t4
 cast-t4 c = m-fits (search ranged depth 60 fits 20000) tt
 
--- src/lib.rt:97:1
 returns : tie.Need-returns
 returns c = same-record (m-eq (search ranged depth 60 fits 20000) tt) (m-eq (search ranged depth 60 fits 20000) tt) refl
 

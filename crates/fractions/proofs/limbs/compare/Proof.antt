@@ -1,7 +1,7 @@
 -- `fractions::limbs::compare` meets its contract: a borrow at the end is Less, anything left of the difference Greater.
 use borrow.Author.Needs.{needs}
 use mathlib.Core.Path.{_≡_}
-use Prim.Native.Nat.{ℕ, _+_, _*_, _^_, _<_, _≤_}
+use Prim.Native.Nat.{_+_, _*_, _^_, _<_, _≤_}
 use native.Mathlib.Omega.{arith}
 use Rattle.fractions.specs.Limbs.{value}
 use Rattle.fractions.specs.declared.limbs.Wide.{Wide}
@@ -10,9 +10,6 @@ use Rattle.fractions.proofs.Borrow.{two-bits, borrowed, the-rest, more-
 use Rattle.fractions.proofs.Orders.{nat-less, nat-equal, nat-greater}
 use Rattle.fractions.proofs.limbs.compare.Statement.{statement}
 use Rattle.fractions.proofs.limbs.compare.Tie as tie
-use Rattle.fractions.proofs.limbs.compare.Reads as reads
-use Rattle.fractions.proofs.limbs.compare.Lts as lts
-use Rattle.fractions.proofs.limbs.difference.Reads as difference-reads
 
 -- the three differences taken
 module _ (c : tie.After-difference3) where

@@ -1,13 +1,10 @@
 -- `fractions::limbs::product` meets its contract: each part of the product fits a limb, and the columns add up.
 use borrow.Author.Needs.{needs}
-use Prim.Native.Nat.{_+_, _*_, _/_, _%_, _^_, _<_}
+use Prim.Native.Nat.{_+_, _*_, _/_, _^_, _<_}
 use native.Mathlib.Omega.{arith}
-use Rattle.fractions.proofs.Halves.{Parts, parts, fits, columns, high-fits}
+use Rattle.fractions.proofs.Halves.{parts, fits, columns, high-fits}
 use Rattle.fractions.proofs.limbs.product.Statement.{statement}
 use Rattle.fractions.proofs.limbs.product.Tie as tie
-use Rattle.fractions.proofs.limbs.product.Reads as reads
-use Rattle.fractions.proofs.limbs.product.Lts as lts
-use Rattle.fractions.proofs.limbs.sum.Reads as sum-reads
 
 mul-sum : tie.Need-mul-sum
 mul-sum c = fits (parts (c .fits .a) (c .fits .b) .across)
