@@ -1,0 +1,4 @@
+pub mod Comparisons
+pub mod Gap
+pub mod Slopes
+pub mod Heights
