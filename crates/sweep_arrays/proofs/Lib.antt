@@ -5,3 +5,4 @@ pub mod Marking
 pub mod Listing
 pub mod Order
 pub mod Waiting
+pub mod Passing
