@@ -6,3 +6,4 @@ pub mod Listing
 pub mod Order
 pub mod Waiting
 pub mod Passing
+pub mod Fronts
