@@ -65,7 +65,7 @@ module _ (C : Chart) (O : Ordered C) (p : C .Point) (at-p : O .Fit p) where
 
   -- from the first beyond p on, all are
   pub stops : (point : ℕ → Point) (l : List ℕ) → ((x : ℕ) → In x l → Fit (point x) × (less (point x) p ≡ false)) → Up C point l
-    → Pairwise (λ x y. same C (point x) p ≡ false → same C (point y) p ≡ false) l
+      → Pairwise (λ x y. same C (point x) p ≡ false → same C (point y) p ≡ false) l
   stops point [] h u = tt
   stops point (x ∷ l) h u = (λ y m e. later y m e, stops point l (λ y m. h y (there m)) (u .1))
     where
@@ -73,8 +73,8 @@ module _ (C : Chart) (O : Ordered C) (p : C .Point) (at-p : O .Fit p) where
       later y m e =
           ⊎-elim
           (λ (s : same C (point y) p ≡ true).
-            clash
-            (subst (λ (z : Point). less z (point x) ≡ true) (sym (same-yes (point y) ((h y (there m)) .0) s)) (same-no (point x) ((h x (here refl)) .1) e))
-            (u .0 y m))
+          clash
+          (subst (λ (z : Point). less z (point x) ≡ true) (sym (same-yes (point y) ((h y (there m)) .0) s)) (same-no (point x) ((h x (here refl)) .1) e))
+          (u .0 y m))
           (λ (s : same C (point y) p ≡ false). s)
           (ask (same C (point y) p))

@@ -7,3 +7,5 @@ pub mod Order
 pub mod Waiting
 pub mod Passing
 pub mod Fronts
+pub mod Freeing
+pub mod Dropping

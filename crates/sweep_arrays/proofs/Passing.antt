@@ -46,7 +46,7 @@ module _ (C : Chart) (O : Ordered C) (places : ℕ) (lent : List ℕ) (R : Room 
   Keeps f g q = (s : Ledger) (m : Marks) → Holds C places lent s m → Holds C places lent (f q s) (g q m)
 
   pub each-holds : (f : Pair → Ledger → Ledger) (g : Pair → Marks → Marks) (l : List Pair) → ((q : Pair) → In q l → Keeps f g q)
-    → (s : Ledger) (m : Marks) → Holds C places lent s m → Holds C places lent (each f l s) (each g l m)
+      → (s : Ledger) (m : Marks) → Holds C places lent s m → Holds C places lent (each f l s) (each g l m)
   unfolding each
   each-holds f g [] k s m H = H
   each-holds f g (q ∷ l) k s m H = each-holds f g l (λ r i. k r (there i)) (f q s) (g q m) (k q (here refl) s m H)
@@ -56,8 +56,8 @@ module _ (C : Chart) (O : Ordered C) (places : ℕ) (lent : List ℕ) (R : Room 
   report-holds q v s m H =
       ⊎-elim
       (λ (e : (not (among q (m .listed)) && meets (kind C q)) ≡ true).
-        rw (H .marks-are q v, two-listed m q, e)
-        (list-holds C places lent R s m H q v (absent q (m .listed) (not-true (among q (m .listed)) ((and-both (not (among q (m .listed))) (meets (kind C q)) e) .0)))))
+      rw (H .marks-are q v, two-listed m q, e)
+      (list-holds C places lent R s m H q v (absent q (m .listed) (not-true (among q (m .listed)) ((and-both (not (among q (m .listed))) (meets (kind C q)) e) .0)))))
       (λ (e : (not (among q (m .listed)) && meets (kind C q)) ≡ false). rw (H .marks-are q v, two-listed m q, e) H)
       (ask (not (among q (m .listed)) && meets (kind C q)))
 
@@ -79,6 +79,6 @@ module _ (C : Chart) (O : Ordered C) (places : ℕ) (lent : List ℕ) (R : Room 
       ⊎-elim
       (λ (e : (among q (m .listed) || among q (m .waiting)) ≡ true). rw (H .marks-are q v, zero-free m q, e) H)
       (λ (e : (among q (m .listed) || among q (m .waiting)) ≡ false).
-        rw (H .marks-are q v, zero-free m q, e)
-        (free-holds p q v s m H (absent q (m .listed) ((neither (among q (m .listed)) (among q (m .waiting)) e) .0)) (absent q (m .waiting) ((neither (among q (m .listed)) (among q (m .waiting)) e) .1)) (kind C q) refl))
+      rw (H .marks-are q v, zero-free m q, e)
+      (free-holds p q v s m H (absent q (m .listed) ((neither (among q (m .listed)) (among q (m .waiting)) e) .0)) (absent q (m .waiting) ((neither (among q (m .listed)) (among q (m .waiting)) e) .1)) (kind C q) refl))
       (ask (among q (m .listed) || among q (m .waiting)))

@@ -38,6 +38,7 @@ module _ (C : Chart) where
     pub less-same : (p q : Point) → Fit p → Fit q → less p q ≡ false → less q p ≡ false → p ≡ q
     pub before-trans : (p : Point) → Fit p → (i j k : ℕ) → i < n → j < n → k < n
         → before p i j ≡ true → before p j k ≡ true → before p i k ≡ true
+    pub before-total : (p : Point) → Fit p → (i j : ℕ) → i < n → j < n → i ≢ j → before p i j ≡ false → before p j i ≡ true
 
   -- pairs of pieces, each once
   pub record Once (l : List Pair) : Type 0 where
