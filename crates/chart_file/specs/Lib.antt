@@ -1,0 +1,6 @@
+-- What is right of a chart file: `Groups` and `Coordinate` say how a number stands, `Format` what file a chart has,
+-- `Reading` what the reader makes of any bytes, and `Demand` what is promised of all that.
+pub mod Groups
+pub mod Coordinate
+pub mod Format
+pub mod Reading
