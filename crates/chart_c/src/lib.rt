@@ -1,7 +1,10 @@
 // The library's calls under plain names, for C and Rust to link (include/mirtalughe.h).
 ghost use mathlib.Core.Path.{_≡_};
 ghost use Rattle.orientation.specs.Turn.{det, turnOf};
-ghost use Rattle.chart_c.specs.Numbers.{turnNumber};
+ghost use Rattle.fractions.specs.Point.{pointOrder};
+ghost use Rattle.chart_c.specs.Numbers.{turnNumber, orderNumber, pointOf};
+use fractions::Order;
+use fractions::Point;
 use orientation::Orientation;
 
 // Which way the three points turn, as its number.
@@ -13,5 +16,34 @@ pub extern "C" fn mirtalughe_orient(x1: i16, y1: i16, x2: i16, y2: i16, x3: i16,
         Orientation::CounterClockWise => 1,
         Orientation::ClockWise => -1,
         Orientation::CoLinear => 0,
+    }
+}
+
+// Which of the points x1/d1, y1/d1 and x2/d2, y2/d2 comes first, as its number.
+#[no_mangle]
+pub extern "C" fn mirtalughe_compare_points(
+    x1: i64,
+    y1: i64,
+    d1: u64,
+    x2: i64,
+    y2: i64,
+    d2: u64,
+) -> i8
+    ensures { λ r. ⌜ r ≡ orderNumber (pointOrder (pointOf x1 y1 d1) (pointOf x2 y2 d2)) ⌝ }
+{
+    let p = Point {
+        x: x1,
+        y: y1,
+        d: d1,
+    };
+    let q = Point {
+        x: x2,
+        y: y2,
+        d: d2,
+    };
+    match fractions::compare_points(p, q) {
+        Order::Less => -1,
+        Order::Equal => 0,
+        Order::Greater => 1,
     }
 }

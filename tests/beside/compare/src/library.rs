@@ -1,10 +1,13 @@
 //! This library's calls, as crates/chart_c/include/mirtalughe.h has them.
 
-use crate::answers::Side;
+use std::cmp::Ordering;
+
+use crate::answers::{Point, Side};
 
 #[link(name = "chart_c", kind = "static")]
 unsafe extern "C" {
   safe fn mirtalughe_orient(x1: i16, y1: i16, x2: i16, y2: i16, x3: i16, y3: i16) -> i8;
+  safe fn mirtalughe_compare_points(x1: i64, y1: i64, d1: u64, x2: i64, y2: i64, d2: u64) -> i8;
 }
 
 pub fn orient(p: [i32; 2], q: [i32; 2], r: [i32; 2]) -> Side {
@@ -14,5 +17,15 @@ pub fn orient(p: [i32; 2], q: [i32; 2], r: [i32; 2]) -> Side {
     -1 => Side::ClockWise,
     0 => Side::CoLinear,
     other => panic!("{other} is the number of no turn"),
+  }
+}
+
+pub fn order(p: &Point, q: &Point) -> Ordering {
+  let [p, q] = [p, q].map(|p| (p.x as i64, p.y as i64, p.d as u64));
+  match mirtalughe_compare_points(p.0, p.1, p.2, q.0, q.1, q.2) {
+    -1 => Ordering::Less,
+    0 => Ordering::Equal,
+    1 => Ordering::Greater,
+    other => panic!("{other} is the number of no order"),
   }
 }

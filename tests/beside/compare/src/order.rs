@@ -2,7 +2,7 @@
 
 use crate::answers::Point;
 use crate::case::{Case, same};
-use crate::{model, original};
+use crate::{library, model, original};
 
 /// So many points of a chart are compared with each other.
 const MOST_POINTS: usize = 12;
@@ -12,7 +12,9 @@ pub fn compare(case: &Case) -> Result<(), String> {
   for p in &points {
     for q in &points {
       let call = || format!("order of {p:?} and {q:?}");
-      same(call, original::order(p, q), "model", p.cmp(q))?;
+      let order = original::order(p, q);
+      same(call, order, "library", library::order(p, q))?;
+      same(call, order, "model", p.cmp(q))?;
     }
   }
   Ok(())
