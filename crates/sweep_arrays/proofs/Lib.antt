@@ -9,3 +9,5 @@ pub mod Passing
 pub mod Fronts
 pub mod Freeing
 pub mod Dropping
+pub mod Inserting
+pub mod Resorting
