@@ -2,3 +2,4 @@
 pub mod Ahead
 pub mod Ends
 pub mod Answers
+pub mod CramersRule

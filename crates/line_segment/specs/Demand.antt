@@ -4,6 +4,7 @@ use mathlib.Core.Logic.{_↔_}
 use mathlib.Core.Bool.{Bool, true, false}
 use Prim.Native.Nat.{_<_}
 use lib.IntN.{pos}
+use Rattle.integers.specs.Size.{Small}
 use Rattle.fractions.specs.declared.Order.the-variants.{Less, Equal, Greater}
 use Rattle.fractions.specs.declared.Point.{Point}
 use Rattle.fractions.specs.Point.{Lowest, Bounded, pointOrder}
@@ -46,7 +47,6 @@ SameWhicheverAsks =
 -- Cramer's point, in lowest terms, lies on both pieces, and no other point is on both lines
 pub record OnlyPoint (a b : LineSegment) (c : Point) : Type 0 where
   pub lowest : Lowest c
-  pub bounded : Bounded c
   pub common : Common a b c
   pub only : (p : Point) → Lowest p → side a p ≡ pos 0 → side b p ≡ pos 0 → p ≡ c
 
@@ -54,6 +54,17 @@ abbrev pub CrossingIsCramers : Type 0
 CrossingIsCramers =
     (a b : LineSegment) → HasLength a → HasLength b → intersectOf a b ≡ Crossing
     → ¬ OneLine a b × OnlyPoint a b (crossingOf a b)
+
+-- "Coordinates run from -32,767 to 32,767."
+pub record OnChart (s : LineSegment) : Type 0 where
+  pub min-x : Small 32767 (s .min .x)
+  pub min-y : Small 32767 (s .min .y)
+  pub max-x : Small 32767 (s .max .x)
+  pub max-y : Small 32767 (s .max .y)
+
+-- "D stays below 2^33, X and Y below 2^48 in size."
+abbrev pub CrossingStaysBounded : Type 0
+CrossingStaysBounded = (a b : LineSegment) → OnChart a → OnChart b → Bounded (crossingOf a b)
 
 -- the stretch of an Overlap is the common part; its ends are the first and last common points with the ends counted in
 pub record CommonPart (a b s : LineSegment) : Type 0 where
