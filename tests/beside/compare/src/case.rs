@@ -4,7 +4,7 @@ use std::fmt::Debug;
 
 use crate::answers::{Chart, Pair};
 use crate::original::Original;
-use crate::{file, half_line, naive, order, orient, place, segment, sweep};
+use crate::{file, half_line, naive, order, orient, place, refusals, segment, sweep};
 
 pub struct Case {
   pub chart: Chart,
@@ -37,6 +37,7 @@ pub fn check(chart: &Chart) -> Result<(), String> {
   order::compare(&case)?;
   naive::compare(&case)?;
   sweep::compare(&case)?;
+  refusals::compare(&case)?;
   file::compare(&case)
 }
 

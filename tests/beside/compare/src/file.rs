@@ -2,20 +2,74 @@
 
 use crate::answers::{Chart, LIMIT, MOST_PIECES, has_length};
 use crate::case::{Case, same};
+use crate::refusals::Refusal;
 
 pub fn compare(case: &Case) -> Result<(), String> {
   let bytes = write(&case.chart);
   let call = || "reading the chart's own file".to_string();
-  same(call, Ok(case.chart.clone()), "reader", read(&bytes))?;
-  let call = || "reading the chart's file and a byte".to_string();
-  let longer = [bytes.as_slice(), &[0]].concat();
-  same(call, Err((7, bytes.len())), "reader", read(&longer))?;
-  if let Some((_, shorter)) = bytes.split_last() {
-    let call = || "reading the chart's file but its last byte".to_string();
-    let ended = matches!(read(shorter), Err((1, _)));
-    same(call, true, "reader", ended)?;
+  same(call, Ok(case.chart.clone()), "model", read(&bytes))?;
+  for (bytes, refusal) in damaged(&case.chart) {
+    let call = || format!("reading the file {bytes:02x?}");
+    same(call, Err(refusal), "model", read(&bytes))?;
   }
   Ok(())
+}
+
+/// Damaged files, and the refusal that each gets.
+fn damaged(chart: &Chart) -> Vec<(Vec<u8>, Refusal)> {
+  let sound = write(chart);
+  let mut faults = vec![
+    ([&sound[..], &[0]].concat(), (7, sound.len())),
+    (vec![MOST_PIECES as u8 + 1], (3, 0)),
+    (vec![0x80], (3, 0)),
+  ];
+  let starts = starts(chart);
+  for (k, start) in starts.iter().enumerate() {
+    let end = starts.get(k + 1).copied().unwrap_or(sound.len());
+    faults.extend((*start..end).map(|cut| (sound[..cut].to_vec(), (1, *start))));
+  }
+  if chart.is_empty() {
+    return faults;
+  }
+  let coordinate = starts[starts.len() - 1];
+  let with_last = |groups: &[u8]| [&sound[..coordinate], groups].concat();
+  for (groups, number) in FAULTY_COORDINATES {
+    faults.push((with_last(groups), (number, coordinate)));
+  }
+  let kind = starts[starts.len() - 5];
+  faults.push(([&sound[..kind], &[4]].concat(), (4, kind)));
+  let ends = &sound[starts[starts.len() - 4]..starts[starts.len() - 2]];
+  let no_length = [&sound[..starts[starts.len() - 2]], ends].concat();
+  faults.push((no_length, (6, kind)));
+  faults
+}
+
+/// Groups that are no coordinate, and why.
+const FAULTY_COORDINATES: [(&[u8], u8); 7] = [
+  (&[0x80], 1),
+  (&[0x80, 0x80], 1),
+  (&[0x80, 0x00], 2),
+  (&[0xff, 0xff, 0x00], 2),
+  (&[0xff, 0xff, 0x83], 2),
+  (&[0xff, 0xff, 0x03], 5),
+  (&[0x80, 0x80, 0x04], 5),
+];
+
+/// Where each number of the chart's file starts.
+fn starts(chart: &Chart) -> Vec<usize> {
+  let mut starts = vec![0];
+  let mut at = 1;
+  for piece in chart {
+    starts.push(at);
+    at += 1;
+    for v in &piece[1..] {
+      starts.push(at);
+      let mut bytes = Vec::new();
+      write_groups(stored(*v), &mut bytes);
+      at += bytes.len();
+    }
+  }
+  starts
 }
 
 /// "The count, then the five numbers of each piece, then the end."
@@ -43,9 +97,6 @@ fn write_groups(mut v: u32, bytes: &mut Vec<u8>) {
   }
   bytes.push(v as u8);
 }
-
-/// The refusal's number, and its place.
-pub type Refusal = (u8, usize);
 
 pub fn read(bytes: &[u8]) -> Result<Chart, Refusal> {
   let mut at = 0;

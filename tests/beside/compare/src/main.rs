@@ -19,6 +19,7 @@ mod orient;
 mod original;
 mod place;
 mod record;
+mod refusals;
 mod segment;
 mod shrink;
 mod sweep;
