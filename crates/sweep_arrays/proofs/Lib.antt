@@ -11,3 +11,5 @@ pub mod Freeing
 pub mod Dropping
 pub mod Inserting
 pub mod Resorting
+pub mod Least
+pub mod Nexts

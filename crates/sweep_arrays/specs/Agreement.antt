@@ -4,16 +4,19 @@ use mathlib.Core.Logic.{_≢_}
 use mathlib.Core.Bool.{Bool, true, false, cond}
 use mathlib.Core.List.{List, [], _∷_, _++_, map}
 use mathlib.Core.List.{List·Memᴰ as In}
+use mathlib.Core.Option.{some}
 use Prim.Native.Nat.{ℕ, _+_, _*_, _≤_, _<_}
 use lib.ListN.{length, drop}
 use Rattle.charts.specs.Chart.{most}
 use Rattle.sweep.specs.Lists.{Pair, among, Pairwise}
 use Rattle.sweep.specs.Chart.{Kind, crosses, Chart, kind, at}
 use Rattle.sweep.specs.Sought.{all}
-use Rattle.sweep.specs.State.{Marks}
+use Rattle.sweep.specs.State.{Marks, State}
+use Rattle.sweep.specs.Queue.{beyond}
 use Rattle.sweep.specs.Demand.{Pieces}
-use Rattle.sweep_arrays.specs.Numbers.{cell}
+use Rattle.sweep_arrays.specs.Numbers.{cell, endOf}
 use Rattle.sweep_arrays.specs.Ledger.{Ledger, mark}
+use Rattle.sweep_arrays.specs.Event.{Sheet}
 
 -- the bytes of a list of pairs
 unfoldable pub flat : List Pair → List ℕ
@@ -63,3 +66,20 @@ module _ (C : Chart) where
     pub waiting-cross : (q : Pair) → In q (m .waiting) → kind C q ≡ crosses
     pub waiting-up : Pairwise (λ q r. less (at C r) (at C q) ≡ false) (m .waiting)
     pub listed-once : Once (m .listed)
+
+  -- the sheet is the state: its ends are those left in the queue; pieces that are active or wait have begun
+  pub record Agrees (O : Ordered) (places : ℕ) (lent : List ℕ) (a : Sheet C) (s : State C) : Type 0 where
+    pub active-is : a .active ≡ s .active
+    pub active-below : (i : ℕ) → In i (s .active) → i < n
+    pub active-once : Pairwise (λ i j. i ≢ j) (s .active)
+    pub active-begun : (i : ℕ) → In i (s .active) → beyond C (s .last) (min i) ≡ false
+    pub ends-in : (e : ℕ) → e < 2 * n → beyond C (s .last) (endOf C e) ≡ true → In e (a .ends)
+    pub ends-out : (e : ℕ) → In e (a .ends) → (e < 2 * n) × (beyond C (s .last) (endOf C e) ≡ true)
+    pub ends-up : Pairwise (λ e f. less (endOf C f) (endOf C e) ≡ false) (a .ends)
+    pub holds : Holds places lent (a .ledger) (s .marks)
+    pub waiting-beyond : (q : Pair) → In q (s .marks .waiting) → beyond C (s .last) (at C q) ≡ true
+    pub waiting-begun : (q : Pair) → In q (s .marks .waiting)
+      → (beyond C (s .last) (min (q .0)) ≡ false) × (beyond C (s .last) (min (q .1)) ≡ false)
+    pub last-is : a .last ≡ s .last
+    pub last-fit : (p : Point) → s .last ≡ some p → O .Fit p
+    pub steps-are : a .steps ≡ s .steps
