@@ -1,5 +1,5 @@
 -- The least point of a list, and the points of the queue by the numbers of ends and pairs.
-use mathlib.Core.Path.{_≡_, refl, sym, ap, _∙_}
+use mathlib.Core.Path.{_≡_, refl, sym, ap, _∙_, subst}
 use mathlib.Core.Logic.{_⊎_, inl, inr, ⊎-elim}
 use mathlib.Core.Bool.{Bool, true, false, cond}
 use mathlib.Core.Option.{Option, none, some}
@@ -99,6 +99,13 @@ module _ (C : Chart) (O : Ordered C) where
   least-is p (q ∷ l) h L =
       let M = least-from-is q l (h q (here refl)) (λ y m. h y (there m)) in
       ap some (O .less-same (least-from C q l) p (h _ (M .is-in)) (h p (L .is-in)) (L .none-before _ (M .is-in)) (M .none-before p (L .is-in)))
+
+  pub least-some : (p : Point) (l : List Point) → ((y : Point) → In y l → Fit y) → least C l ≡ some p → Least p l
+  unfolding least
+  least-some p [] h e = let z : _≡_ {A = ℕ} 0 1 = cc in absurd (omega arith)
+  least-some p (q ∷ l) h e =
+      let d : least-from C q l ≡ p = cc in
+      subst (λ (x : Point). Least x (q ∷ l)) d (least-from-is q l (h q (here refl)) (λ y m. h y (there m)))
 
   pub least-empty : (l : List Point) → ((y : Point) → ¬ In y l) → least C l ≡ none
   unfolding least

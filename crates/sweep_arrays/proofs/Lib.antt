@@ -13,3 +13,5 @@ pub mod Inserting
 pub mod Resorting
 pub mod Least
 pub mod Nexts
+pub mod Flags
+pub mod Roles

@@ -20,7 +20,7 @@ use Rattle.sweep_arrays.specs.Run.{next as next-on}
 use Rattle.sweep_arrays.specs.Agreement.{Ordered, Room, Agrees}
 use Rattle.sweep_arrays.proofs.Cells.{pair-cell}
 use Rattle.sweep_arrays.proofs.Order.{Up, asym, not-after}
-use Rattle.sweep_arrays.proofs.Least.{Least, least-is, least-empty, end-fit, wait-fit, end-queued, wait-queued, queue-out, queue-fit}
+use Rattle.sweep_arrays.proofs.Least.{Least, least-is, least-some, least-empty, end-fit, wait-fit, end-queued, wait-queued, queue-out, queue-fit}
 
 module _ (C : Chart) (O : Ordered C) (places : ℕ) (lent : List ℕ) (R : Room C places lent) (a : Sheet C) (s : State C) (G : Agrees C O places lent a s) where
   open Chart C using (Point, less, n)
@@ -99,3 +99,24 @@ module _ (C : Chart) (O : Ordered C) (places : ℕ) (lent : List ℕ) (R : Room 
   pub next-agrees : next-on C a ≡ next C s
   unfolding next-on next
   next-agrees = ap (next-by C (a .ends)) (G .holds .waiting-is) ∙ next-cases (a .ends) (s .marks .waiting) refl refl
+
+  module _ (p : Point) (taken : next C s ≡ some p) where
+    least-p : Least C O p (queue C s)
+    unfolding next
+    least-p = least-some C O p (queue C s) (queue-fit C O places lent R a s G) taken
+
+    pub p-fit : O .Fit p
+    p-fit = queue-fit C O places lent R a s G p (least-p .is-in)
+
+    pub p-beyond : beyond C (s .last) p ≡ true
+    p-beyond =
+        ⊎-elim
+        (λ (h : (e : ℕ) × In e (a .ends) × (p ≡ endOf C e)). rw (h .2) ((G .ends-out (h .0) (h .1)) .1))
+        (λ (h : (q : Pair) × In q (s .marks .waiting) × (p ≡ at C q)). rw (h .2) (G .waiting-beyond (h .0) (h .1)))
+        (queue-out C O places lent R a s G p (least-p .is-in))
+
+    pub no-end-before : (e : ℕ) → In e (a .ends) → O .Fit (endOf C e) × (less (endOf C e) p ≡ false)
+    no-end-before e m = (fit-e e m, least-p .none-before (endOf C e) (end-queued C O places lent R a s G e m))
+
+    pub no-crossing-before : (q : Pair) → In q (s .marks .waiting) → less (at C q) p ≡ false
+    no-crossing-before q m = least-p .none-before (at C q) (wait-queued C O places lent R a s G q m)
