@@ -15,3 +15,4 @@ pub mod Least
 pub mod Nexts
 pub mod Flags
 pub mod Roles
+pub mod Joining

@@ -94,12 +94,10 @@ module _ (C : Chart) (O : Ordered C) (places : ℕ) (lent : List ℕ) (R : Room 
   small : (i : ℕ) → i < n → i < most
   small i h = omega (arith, R .few)
 
-  pub starting-is : (i : ℕ) → i < n → flagged (starting C a p) i ≡ starts C p i
-  unfolding starting starts
-  starting-is i h =
-      flagged-is (halves (keep are-min (ends-here C a p))) i (small i h)
-      ∙ sort-flags are-min i (2 * i) (omega arith) (omega arith) (even i) (rw (end-min C i) (O .fit-min i h)) (λ f e d. only f e d)
-      ∙ (at-min)
+  pub starting-any : (i : ℕ) → i < n → any (eqb i) (halves (keep are-min (ends-here C a p))) ≡ starts C p i
+  unfolding starts
+  starting-any i h =
+      sort-flags are-min i (2 * i) (omega arith) (omega arith) (even i) (rw (end-min C i) (O .fit-min i h)) (λ f e d. only f e d) ∙ at-min
     where
       even : (i : ℕ) → are-min (2 * i) ≡ true
       even i = unfold are-min in (let a : (2 * i) % 2 ≡ 0 = omega arith in rw a)
@@ -108,11 +106,10 @@ module _ (C : Chart) (O : Ordered C) (places : ℕ) (lent : List ℕ) (R : Room 
       at-min : end-at C p (2 * i) ≡ same C (min i) p
       at-min = unfold end-at in ap (λ (z : Point). same C z p) (end-min C i)
 
-  pub finishing-is : (i : ℕ) → i < n → flagged (finishing C a p) i ≡ finishes C p i
-  unfolding finishing finishes
-  finishing-is i h =
-      flagged-is (halves (keep (λ e. not (are-min e)) (ends-here C a p))) i (small i h)
-      ∙ sort-flags (λ e. not (are-min e)) i (2 * i + 1) (omega arith) (omega arith) (odd i) (rw (end-max C i) (O .fit-max i h)) (λ f e d. only f e d)
+  pub finishing-any : (i : ℕ) → i < n → any (eqb i) (halves (keep (λ e. not (are-min e)) (ends-here C a p))) ≡ finishes C p i
+  unfolding finishes
+  finishing-any i h =
+      sort-flags (λ e. not (are-min e)) i (2 * i + 1) (omega arith) (omega arith) (odd i) (rw (end-max C i) (O .fit-max i h)) (λ f e d. only f e d)
       ∙ at-max
     where
       odd : (i : ℕ) → not (are-min (2 * i + 1)) ≡ true
@@ -121,6 +118,14 @@ module _ (C : Chart) (O : Ordered C) (places : ℕ) (lent : List ℕ) (R : Room 
       only f e d = let k : ¬ (f % 2 ≡ 0) = eqb-false (f % 2) 0 (not-true (eqb (f % 2) 0) (unfold are-min in e)) in omega (arith, k)
       at-max : end-at C p (2 * i + 1) ≡ same C (max i) p
       at-max = unfold end-at in ap (λ (z : Point). same C z p) (end-max C i)
+
+  pub starting-is : (i : ℕ) → i < n → flagged (starting C a p) i ≡ starts C p i
+  unfolding starting
+  starting-is i h = flagged-is (halves (keep are-min (ends-here C a p))) i (small i h) ∙ starting-any i h
+
+  pub finishing-is : (i : ℕ) → i < n → flagged (finishing C a p) i ≡ finishes C p i
+  unfolding finishing
+  finishing-is i h = flagged-is (halves (keep (λ e. not (are-min e)) (ends-here C a p))) i (small i h) ∙ finishing-any i h
 
   abbrev pub gone : Pair → Bool
   gone q = same C (at C q) p
