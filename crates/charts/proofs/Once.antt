@@ -10,6 +10,8 @@ use Rattle.charts.proofs.listing_of.Kinds as listing-of-kinds
 use Rattle.charts.proofs.listing_of.Reads as listing-of
 use Rattle.charts.proofs.pair_verdict_of.Kinds as pair-verdict-of-kinds
 use Rattle.charts.proofs.pair_verdict_of.Reads as pair-verdict-of
+use Rattle.charts.proofs.meeting_of.Kinds as meeting-of-kinds
+use Rattle.charts.proofs.meeting_of.Reads as meeting-of
 use Rattle.charts.proofs.piece_at.Kinds as piece-at-kinds
 use Rattle.charts.proofs.piece_at.Reads as piece-at
 use Rattle.charts.proofs.is_upright.Kinds as is-upright-kinds
@@ -32,6 +34,9 @@ listing-of-once κs a r r′ s s′ h k = h ∙ sym k
 
 pub pair-verdict-of-once : OneResult 1 pair-verdict-of-kinds.ps pair-verdict-of-kinds.r pair-verdict-of.Post
 pair-verdict-of-once κs a r r′ s s′ h k = h ∙ sym k
+
+pub meeting-of-once : OneResult 1 meeting-of-kinds.ps meeting-of-kinds.r meeting-of.Post
+meeting-of-once κs a r r′ s s′ h k = h ∙ sym k
 
 pub piece-at-once : OneResult 1 piece-at-kinds.ps piece-at-kinds.r piece-at.Post
 piece-at-once κs a r r′ s s′ h k = h ∙ sym k

@@ -4,8 +4,9 @@ ghost use Rattle.charts.specs.Fault.{outside, offRange, eqZ, sameEnds, f
 ghost use Rattle.charts.specs.Chart.{most, numberAt, faultAt, verdictOf};
 ghost use Rattle.charts.specs.Piece.{kindOf, coordinateOf, pieceAt, isUpright, noUpright};
 ghost use Rattle.charts.specs.Answer.{doneWith, refusedWith, room, listingOf};
-ghost use Rattle.charts.specs.Pair.{pairVerdictOf};
+ghost use Rattle.charts.specs.Pair.{pairVerdictOf, meetingOf};
 use line_segment::LineSegment;
+use line_segment::Meeting;
 
 // A chart has at most so many pieces.
 pub const MOST: usize = 64;
@@ -27,6 +28,13 @@ pub struct Answer {
     pub place: usize,
     // of pieces read or of pairs listed, 0 where refused
     pub count: usize,
+}
+
+// What the test of two pieces returns: the meeting is nothing where the call is refused.
+pub struct MeetingAnswer {
+    pub number: u8,
+    pub place: usize,
+    pub meeting: Meeting,
 }
 
 fn is_outside(low: i32, high: i32, v: i32) -> bool
@@ -224,4 +232,22 @@ pub fn pair_verdict_of(list: &[i32]) -> Verdict
         return Verdict::Refused(9, 0);
     }
     verdict_of(list)
+}
+
+// How the two pieces of ten numbers meet, the first one asking.
+pub fn meeting_of(list: &[i32]) -> MeetingAnswer
+    ensures { λ r. ⌜ r ≡ meetingOf (now (list .entry)) ⌝ }
+{
+    match pair_verdict_of(list) {
+        Verdict::Refused(number, place) => MeetingAnswer {
+            number,
+            place,
+            meeting: Meeting::Nothing,
+        },
+        Verdict::Accepted(_) => MeetingAnswer {
+            number: 0,
+            place: 0,
+            meeting: line_segment::intersect(piece_at(list, 0), piece_at(list, 1)),
+        },
+    }
 }
