@@ -55,7 +55,6 @@ module _ (a b : ℤ) where
 
 -- ---- the answer turned round
 pub order-turned : (a b : ℤ) → order b a ≡ turned (order a b)
-unfolding turned
 order-turned a b = go (answer a b)
   where
     go : {o : Order} → Answer a b o → order b a ≡ turned o

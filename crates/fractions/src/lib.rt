@@ -4,14 +4,6 @@ mod limbs;
 
 use integers::size;
 use limbs::product;
-
-// Which of two is less.
-pub enum Order {
-    Less,
-    Equal,
-    Greater,
-}
-
 ghost use mathlib.Core.Path.{_≡_};
 ghost use Prim.Native.Nat.{_<_};
 ghost use lib.IntN.{pos};
@@ -20,6 +12,13 @@ ghost use Rattle.fractions.specs.Order.{turned};
 ghost use Rattle.fractions.specs.Fraction.{above, ratioOrder, fractionOrder};
 ghost use Rattle.fractions.specs.Divisor.{gcdOf};
 ghost use Rattle.fractions.specs.Point.{pointOrder, lowestOf, wholeOf};
+
+// Which of two is less.
+pub enum Order {
+    Less,
+    Equal,
+    Greater,
+}
 
 // A fraction by sign and size: `over` above the line, below 0 where `negative`, and `under` below it.
 pub struct Fraction {

@@ -18,6 +18,7 @@ pub struct Rest {
     pub borrow: u64,
 }
 
+// Half a limb holds the numbers below this one.
 const HALF: u64 = 4294967296;
 
 // x + y, with its carry as the high limb: a sum that wrapped is below each of its terms.

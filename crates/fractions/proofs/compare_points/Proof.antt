@@ -24,22 +24,25 @@ compare-ratios-requires-2 c κs = search needs
 enum-told-3 : tie.Need-enum-told-3
 enum-told-3 c = search needs
 
--- an answer of `compare_ratios`, its arguments read back from their bits
+-- the two answers of `compare_ratios`, its arguments read back from their bits
 first : (c : tie.After-compare-ratios) → let s = c .before .before .before .args in ratioOrder (s .p .x) (s .p .d) (s .q .x) (s .q .d) ≡ c .compare-ratios .result
 first c =
     let s = c .before .before .before .args in
     sym (c .compare-ratios .ensures ∙ ap₂ (λ (x y : ℤ). ratioOrder x (s .p .d) y (s .q .d)) (m-eq (search ranged depth 60 fits 20000) tt) (m-eq (search ranged depth 60 fits 20000) tt))
 
+second :
+    (c : tie.After-compare-ratios2) →
+    let s = c .before .before .before .before .before .before .before .before .args in
+    c .compare-ratios2 .result ≡ ratioOrder (s .p .y) (s .p .d) (s .q .y) (s .q .d)
+second c =
+    let s = c .before .before .before .before .before .before .before .before .args in
+    c .compare-ratios2 .ensures ∙ ap₂ (λ (x y : ℤ). ratioOrder x (s .p .d) y (s .q .d)) (m-eq (search ranged depth 60 fits 20000) tt) (m-eq (search ranged depth 60 fits 20000) tt)
+
 returns : tie.Need-returns
 returns c = by-x _ _ (first (c .before .before) ∙ c .enum-told .given .1)
 
 returns-2 : tie.Need-returns-2
-returns-2 c =
-    let m = c .before .before .before in
-    let s = m .before .before .before .before .before .args in
-    c .compare-ratios2 .ensures
-    ∙ ap₂ (λ (x y : ℤ). ratioOrder x (s .p .d) y (s .q .d)) (m-eq (search ranged depth 60 fits 20000) tt) (m-eq (search ranged depth 60 fits 20000) tt)
-    ∙ by-x _ _ (first (m .before .before) ∙ m .enum-told2 .given .1)
+returns-2 c = second c ∙ by-x _ _ (first (c .before .before .before .before .before) ∙ c .before .before .before .enum-told2 .given .1)
 
 returns-3 : tie.Need-returns-3
 returns-3 c = by-x _ _ (first (c .before .before) ∙ c .enum-told3 .given .1)
