@@ -8,6 +8,7 @@ use Rattle.fractions.specs.Limbs.{value}
 use Rattle.fractions.specs.declared.limbs.Wide.{Wide}
 use Rattle.fractions.specs.declared.limbs.Rest.{Rest}
 
+-- the limbs xh xl and yh yl; l is left of the low limbs with the borrow bl, h of the high ones with bh, k of h less bl with bk. Each step stands alone, since with all of them at hand the numbers outgrow `omega`
 joined : (xh yh bl h bh k bk : ℕ) → h + yh ≡ bh * 2 ^ 64 + xh → k + bl ≡ bk * 2 ^ 64 + h → k + bl + yh ≡ (bh + bk) * 2 ^ 64 + xh
 joined xh yh bl h bh k bk high last = omega arith
 
@@ -22,6 +23,9 @@ low-left xh xl yh yl l bl k low e = omega arith
 
 none-over : (xh e b : ℕ) → e ≡ b * 2 ^ 64 + xh → b ≤ 0 → e ≡ xh
 none-over xh e b h n = omega arith
+
+pub zero-limbs : {h l : ℕ} → h ≤ 0 → l ≤ 0 → h * 2 ^ 64 + l ≤ 0
+zero-limbs p q = omega arith
 
 pub two-bits : {a b : ℕ} → a ≤ 1 → b ≤ 1 → Fits w64 (a + b)
 two-bits p q = omega arith

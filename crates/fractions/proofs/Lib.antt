@@ -15,3 +15,4 @@ pub mod Crossed
 pub mod Halves
 pub mod Borrow
 pub mod Promises
+mod Examples

@@ -1,6 +1,6 @@
 -- The answer `order a b`: what gives it (`order-less`), what it says (`answer`, `less-order`), and the answer turned round.
 use mathlib.Core.Path.{_≡_, sym, ap, subst}
-use Prim.Native.Nat.{ℕ, zero, suc, _+_, _*_, _^_, _<_, _≤_}
+use Prim.Native.Nat.{ℕ, zero, suc, _+_, _<_, _≤_}
 use native.Mathlib.Omega.{arith}
 use lib.IntN.{ℤ, pos, negℤ}
 use lib.Signed.{_<ℤ_, ltZ-yes}
@@ -81,6 +81,3 @@ across-less (suc x) y h = sym (order-less (ltZ-yes tt))
 pub across-equal : (x y : ℕ) → x ≤ 0 → y ≤ 0 → Equal ≡ order (negℤ (pos x)) (pos y)
 across-equal zero y h k = nat-equal (omega arith)
 across-equal (suc x) y h k = absurd (omega arith)
-
-pub zero-limbs : {h l : ℕ} → h ≤ 0 → l ≤ 0 → h * 2 ^ 64 + l ≤ 0
-zero-limbs p q = omega arith

@@ -1,7 +1,7 @@
 -- The g-th part of a whole number, rounded toward 0: its size, its sign, and when g times it is the number again.
 use mathlib.Core.Path.{_≡_, refl, ap, _∙_}
 use mathlib.Core.Bool.{cond}
-use Prim.Native.Nat.{ℕ, suc, _/_, _≤_, _<_, _^_, _∣_}
+use Prim.Native.Nat.{ℕ, suc, _+_, _/_, _≤_, _<_, _^_, _∣_}
 use native.Mathlib.Nat.{div-mul-cancel, div-lt-iff-lt-mul}
 use native.Mathlib.Omega.{arith}
 use lib.Dec.{leb·suc-zero}
@@ -33,9 +33,10 @@ pub quot-times : (x : ℤ) (g : ℕ) → g ∣ natAbs x → quotZ x (pos g) *ℤ
 quot-times (pos n) g h = ap pos (div-mul-cancel g h)
 quot-times (negsuc n) g h = neg-*ℤ (pos (suc n / g)) (pos g) ∙ ap (λ (k : ℕ). negℤ (pos k)) (div-mul-cancel g h)
 
--- a part that is at most the half of an i64 has room, with either sign
-pub half : (n g : ℕ) → n ≤ 2 ^ 63 → 1 < g → n / g < 4611686018427387905
-half n g h k = div-lt-iff-lt-mul {k = g} {x = n} {y = 4611686018427387905} (omega arith) .1 (omega arith)
+-- the half of an i64's size or less: it has room with either sign
+pub half : (n g : ℕ) → n ≤ 2 ^ 63 → 1 < g → n / g < 2 ^ 62 + 1
+half n g h k = div-lt-iff-lt-mul {k = g} {x = n} {y = 2 ^ 62 + 1} (omega arith) .1 (omega arith)
 
+-- two points by their numbers
 pub same-record : {x x′ y y′ : ℤ} {d d′ : ℕ} → x ≡ x′ → y ≡ y′ → d ≡ d′ → _≡_ {A = Point} (record { x = x; y = y; d = d }) (record { x = x′; y = y′; d = d′ })
 same-record p q r i = record { x = p i; y = q i; d = r i }

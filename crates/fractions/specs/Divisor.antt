@@ -9,7 +9,7 @@ pub record Greatest (a b g : ℕ) : Type 0 where
   pub right : g ∣ b
   pub greatest : (k : ℕ) → k ∣ a → k ∣ b → k ∣ g
 
--- so many steps, each from a and b to b and the remainder of a by b
+-- n steps, each from a and b to b and the remainder of a by b; by `let`, so that only the steps that are due are computed
 unfoldable pub euclid : ℕ → ℕ → ℕ → ℕ
 euclid zero a b = a
 euclid (suc n) a b = let r = euclid n b (a % b) in cond (eqb b 0) a r

@@ -11,7 +11,7 @@ use Rattle.fractions.specs.declared.Fraction.{Fraction}
 unfoldable pub ratioOrder : ℤ → ℕ → ℤ → ℕ → Order
 ratioOrder x d y e = order (x *ℤ pos e) (y *ℤ pos d)
 
--- what stands above the line, with its sign
+-- what stands above the line, with its sign. "A piece's height .. has larger terms: below 2^49 under the line, below 2^64 in size above it."
 unfoldable pub above : Fraction → ℤ
 above f = cond (f .negative) (negℤ (pos (f .over))) (pos (f .over))
 

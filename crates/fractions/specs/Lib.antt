@@ -1,3 +1,4 @@
+-- What the contracts of fractions cite; Demand has what is promised of it.
 pub mod Order
 pub mod Fraction
 pub mod Limbs

@@ -1,7 +1,7 @@
 -- `fractions::part` meets its contract: a half or less of an i64 has room, with either sign.
 use borrow.Author.Needs.{needs}
 use mathlib.Core.Path.{_≡_, ap, _∙_}
-use Prim.Native.Nat.{ℕ, _/_, _<_}
+use Prim.Native.Nat.{ℕ, _+_, _/_, _^_, _<_}
 use native.Mathlib.Omega.{arith}
 use lib.IntN.{ℤ, pos, negℤ, natAbs, +ℤ-idl}
 use lib.Signed.{natAbs-le}
@@ -31,7 +31,7 @@ module _ (c : tie.After-size) where
   is : n ≡ natAbs x / c .before .args .g
   is = ap (λ (k : ℕ). k / c .before .args .g) (c .size .ensures ∙ ap natAbs (toZ-ofZ w64 x (c .before .fits .x)))
 
-  room : n < 4611686018427387905
+  room : n < 2 ^ 62 + 1
   room = rw is (half (natAbs x) (c .before .args .g) (natAbs-le x (c .before .fits .x .sfits)) (c .before .pre))
 
 cast-n : tie.Need-cast-n

@@ -1,7 +1,8 @@
 -- `fractions::limbs::compare_across` meets its contract: one limb above 0 is enough.
 use native.Mathlib.Omega.{arith}
 use Rattle.fractions.specs.Limbs.{value}
-use Rattle.fractions.proofs.Orders.{across-less, across-equal, zero-limbs}
+use Rattle.fractions.proofs.Borrow.{zero-limbs}
+use Rattle.fractions.proofs.Orders.{across-less, across-equal}
 use Rattle.fractions.proofs.limbs.compare_across.Statement.{statement}
 use Rattle.fractions.proofs.limbs.compare_across.Tie as tie
 
