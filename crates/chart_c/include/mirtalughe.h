@@ -2,7 +2,16 @@
 #ifndef MIRTALUGHE_H
 #define MIRTALUGHE_H
 
+#include <stddef.h>
 #include <stdint.h>
+
+/* A number of the table of refusals, 0 where the call is done; its place; and the count of pieces
+   read or pairs listed. A refusal has count 0 and leaves lent memory as it is. */
+typedef struct {
+    uint8_t number;
+    size_t place;
+    size_t count;
+} mirtalughe_answer;
 
 /* Which way the three points turn: 1 counter-clockwise, -1 clockwise, 0 not at all. */
 int8_t mirtalughe_orient(int16_t x1, int16_t y1, int16_t x2, int16_t y2, int16_t x3, int16_t y3);
@@ -10,5 +19,9 @@ int8_t mirtalughe_orient(int16_t x1, int16_t y1, int16_t x2, int16_t y2, int16_t
 /* Which of the points x1/d1, y1/d1 and x2/d2, y2/d2 comes first, by x, then y: -1 the first, 1 the
    second, 0 neither. */
 int8_t mirtalughe_compare_points(int64_t x1, int64_t y1, uint64_t d1, int64_t x2, int64_t y2, uint64_t d2);
+
+/* Reads a chart file into a lent list, five numbers a piece: kind, x1, y1, x2, y2. `lent` is to be at
+   least 320. Numbers past the last piece keep their values. */
+mirtalughe_answer mirtalughe_read(const uint8_t *file, size_t size, int32_t *list, size_t lent);
 
 #endif

@@ -2,7 +2,9 @@
 ghost use mathlib.Core.Path.{_≡_};
 ghost use Rattle.orientation.specs.Turn.{det, turnOf};
 ghost use Rattle.fractions.specs.Point.{pointOrder};
+ghost use Rattle.chart_file.specs.Reading.{Reads};
 ghost use Rattle.chart_c.specs.Numbers.{turnNumber, orderNumber, pointOf};
+use charts::Answer;
 use fractions::Order;
 use fractions::Point;
 use orientation::Orientation;
@@ -46,4 +48,12 @@ pub extern "C" fn mirtalughe_compare_points(
         Order::Equal => 0,
         Order::Greater => 1,
     }
+}
+
+// Reads a chart file into a lent list.
+#[no_mangle]
+pub extern "C" fn mirtalughe_read(file: &[u8], list: &mut [i32]) -> Answer
+    ensures { λ r. ⌜ Reads (now (file .entry)) (now (list .entry)) r (now (list .exit)) ⌝ }
+{
+    chart_file::read(file, list)
 }

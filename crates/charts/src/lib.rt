@@ -22,6 +22,7 @@ pub enum Verdict {
 }
 
 // What the reader of a file and the calls that list pairs return.
+#[repr(C)]
 pub struct Answer {
     // 0 where the call is done, else the refusal
     pub number: u8,

@@ -89,6 +89,30 @@ pub struct Run {
   pub steps: Vec<Step>,
 }
 
+/// What a call that fills lent memory returns: a number of the scope's table, its place, and the
+/// count of pieces or pairs.
+#[repr(C)]
+#[derive(Clone, Copy, PartialEq, Eq, Debug)]
+pub struct Answer {
+  pub number: u8,
+  pub place: usize,
+  pub count: usize,
+}
+
+/// A refusal's number and place.
+pub type Refusal = (u8, usize);
+
+impl Answer {
+  pub fn of(outcome: Result<usize, Refusal>) -> Answer {
+    let (number, place) = outcome.err().unwrap_or_default();
+    Answer {
+      number,
+      place,
+      count: outcome.unwrap_or_default(),
+    }
+  }
+}
+
 pub fn is_upright(piece: &Piece) -> bool {
   piece[1] == piece[3]
 }

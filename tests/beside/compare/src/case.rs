@@ -48,11 +48,22 @@ pub fn same<T: PartialEq + Debug>(
   whose: &str,
   theirs: T,
 ) -> Result<(), String> {
-  if rust == theirs {
+  agree(call, "Rust", rust, whose, theirs)
+}
+
+/// Ok where two answers are equal.
+pub fn agree<T: PartialEq + Debug>(
+  call: impl Fn() -> String,
+  one: &str,
+  answer: T,
+  other: &str,
+  other_answer: T,
+) -> Result<(), String> {
+  if answer == other_answer {
     return Ok(());
   }
+  let call = call();
   Err(format!(
-    "{}\n  Rust  {rust:?}\n  {whose} {theirs:?}",
-    call()
+    "{call}\n  {one}: {answer:?}\n  {other}: {other_answer:?}"
   ))
 }

@@ -1,18 +1,61 @@
 //! The chart file. The Rust has none: the reader is held to the scope's rules, modelled here.
 
-use crate::answers::{Chart, LIMIT, MOST_PIECES, has_length};
-use crate::case::{Case, same};
-use crate::refusals::Refusal;
+use crate::answers::{Answer, Chart, LIMIT, MOST_PIECES, Refusal, has_length};
+use crate::case::{Case, agree};
+use crate::charts::Random;
+use crate::library;
+use crate::refusals::numbers;
+
+/// "under 320 numbers lent"
+const ROOM: usize = 5 * MOST_PIECES;
 
 pub fn compare(case: &Case) -> Result<(), String> {
-  let bytes = write(&case.chart);
+  let sound = write(&case.chart);
   let call = || "reading the chart's own file".to_string();
-  same(call, Ok(case.chart.clone()), "model", read(&bytes))?;
+  agree(call, "scope", Ok(case.chart.clone()), "model", read(&sound))?;
+  for lent in [0, ROOM - 1, ROOM, ROOM + 3] {
+    compare_reading(&sound, lent)?;
+  }
   for (bytes, refusal) in damaged(&case.chart) {
     let call = || format!("reading the file {bytes:02x?}");
-    same(call, Err(refusal), "model", read(&bytes))?;
+    agree(call, "scope", Err(refusal), "model", read(&bytes))?;
+    compare_reading(&bytes, ROOM)?;
+  }
+  for bytes in scrambled(&sound) {
+    compare_reading(&bytes, ROOM)?;
   }
   Ok(())
+}
+
+/// The answer, and every number of the lent list.
+fn compare_reading(bytes: &[u8], lent: usize) -> Result<(), String> {
+  let mut list: Vec<i32> = (0..lent).map(|i| -7 - i as i32).collect();
+  let mut expected = list.clone();
+  let outcome = if lent < ROOM {
+    Err((8, 0))
+  } else {
+    read(bytes)
+  };
+  if let Ok(chart) = &outcome {
+    expected[..5 * chart.len()].copy_from_slice(&numbers(chart));
+  }
+  let expected = (Answer::of(outcome.map(|chart| chart.len())), expected);
+  let answer = library::read(bytes, &mut list);
+  let call = || format!("reading the file {bytes:02x?} into {lent} numbers");
+  agree(call, "model", expected, "library", (answer, list))
+}
+
+/// The file with a few bytes changed at random, the same ones every time.
+fn scrambled(sound: &[u8]) -> impl Iterator<Item = Vec<u8>> {
+  (0..8).map(|i| {
+    let mut random = Random::new(sound.len() as u64, i);
+    let mut bytes = sound.to_vec();
+    for _ in 0..=i / 2 {
+      let at = random.between(0, bytes.len() as i32 - 1) as usize;
+      bytes[at] = random.pick(&[0, 1, 3, 4, 0x7f, 0x80, 0xfe, 0xff, bytes[at] ^ 1]);
+    }
+    bytes
+  })
 }
 
 /// Damaged files, and the refusal that each gets.

@@ -2,12 +2,13 @@
 
 use std::cmp::Ordering;
 
-use crate::answers::{Point, Side};
+use crate::answers::{Answer, Point, Side};
 
 #[link(name = "chart_c", kind = "static")]
 unsafe extern "C" {
   safe fn mirtalughe_orient(x1: i16, y1: i16, x2: i16, y2: i16, x3: i16, y3: i16) -> i8;
   safe fn mirtalughe_compare_points(x1: i64, y1: i64, d1: u64, x2: i64, y2: i64, d2: u64) -> i8;
+  fn mirtalughe_read(file: *const u8, size: usize, list: *mut i32, lent: usize) -> Answer;
 }
 
 pub fn orient(p: [i32; 2], q: [i32; 2], r: [i32; 2]) -> Side {
@@ -28,4 +29,8 @@ pub fn order(p: &Point, q: &Point) -> Ordering {
     1 => Ordering::Greater,
     other => panic!("{other} is the number of no order"),
   }
+}
+
+pub fn read(file: &[u8], list: &mut [i32]) -> Answer {
+  unsafe { mirtalughe_read(file.as_ptr(), file.len(), list.as_mut_ptr(), list.len()) }
 }

@@ -1,18 +1,21 @@
 //! Lists that are refused: what number and place each fault gets, from the scope's table.
 
-use crate::answers::{Chart, LIMIT, MOST_PIECES, Piece, has_length};
-use crate::case::{Case, same};
-
-/// The refusal's number, and its place.
-pub type Refusal = (u8, usize);
+use crate::answers::{Chart, LIMIT, MOST_PIECES, Piece, Refusal, has_length};
+use crate::case::{Case, agree};
 
 pub fn compare(case: &Case) -> Result<(), String> {
   let sound = numbers(&case.chart);
   let call = || "the chart as a list".to_string();
-  same(call, Ok(case.chart.len()), "model", verdict(&sound))?;
+  agree(
+    call,
+    "scope",
+    Ok(case.chart.len()),
+    "model",
+    verdict(&sound),
+  )?;
   for (list, refusal) in damaged(&case.chart) {
     let call = || format!("the list {list:?}");
-    same(call, Err(refusal), "model", verdict(&list))?;
+    agree(call, "scope", Err(refusal), "model", verdict(&list))?;
   }
   Ok(())
 }
