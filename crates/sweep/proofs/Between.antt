@@ -1,22 +1,21 @@
 -- What holds between two steps, and why then no crossing is missed.
 use mathlib.Core.Path.{_≡_, refl, sym, ap, _∙_}
 use mathlib.Core.Logic.{_⊎_, inl, inr, ⊎-elim, _≢_, by-cases}
-use mathlib.Core.Bool.{Bool, true, false}
+use mathlib.Core.Bool.{true}
 use mathlib.Core.Option.{Option, none, some}
-use mathlib.Core.List.{List, [], _∷_}
 use mathlib.Core.List.{List·Memᴰ as In}
 use Prim.Native.Nat.{ℕ, zero, suc, _≤_, _<_}
 use native.Mathlib.Omega.{arith}
 use native.Mathlib.Decide.{decLt}
 use Rattle.sweep.specs.Lists.{Pair, lesser-first, adjacent, Pairwise}
-use Rattle.sweep.specs.Chart.{Kind, nothing, crosses, Chart, meets, kind, at}
+use Rattle.sweep.specs.Chart.{nothing, crosses, Chart, meets, kind, at}
 use Rattle.sweep.specs.State.{Marks, State}
 use Rattle.sweep.specs.Sought.{first}
 use Rattle.sweep.specs.Geometry.{Occurs}
 use Rattle.sweep.specs.Demand.{Pieces}
 use Rattle.sweep.proofs.Ranked.{Ranked}
 use Rattle.sweep.proofs.Neighbours.{CrossAt, neighbours}
-use Rattle.sweep.proofs.First.{first-crosses, pair-pieces, pair-kind, pair-at}
+use Rattle.sweep.proofs.First.{first-crosses, pair-kind, pair-at}
 
 pub which : {A : Type 0} (o : Option A) → (o ≡ none) ⊎ ((a : A) × (o ≡ some a))
 which none = inl refl

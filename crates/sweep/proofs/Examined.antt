@@ -1,19 +1,19 @@
 -- Examining adjacent pairs lists nothing, since whatever met is listed: it only sets pairs to wait.
-use mathlib.Core.Path.{_≡_, refl, sym, ap, _∙_}
-use mathlib.Core.Logic.{_⊎_, inl, inr, ⊎-elim, by-cases}
-use mathlib.Core.Bool.{Bool, true, false, cond, _||_}
+use mathlib.Core.Path.{_≡_, refl, ap, _∙_}
+use mathlib.Core.Logic.{_⊎_, inl, inr, ⊎-elim}
+use mathlib.Core.Bool.{true, false, _||_}
 use mathlib.Core.List.{List, [], _∷_}
 use mathlib.Core.List.{List·Memᴰ as In, List·Memᴰ·head as here, List·Memᴰ·tail as there}
-use Prim.Native.Nat.{ℕ, suc, _≤_, _<_}
+use Prim.Native.Nat.{suc, _≤_, _<_}
 use native.Mathlib.Omega.{arith}
 use Rattle.sweep.specs.Lists.{Pair, among}
-use Rattle.sweep.specs.Chart.{Kind, nothing, crosses, overlaps, Chart, meets, kind, at}
+use Rattle.sweep.specs.Chart.{nothing, crosses, overlaps, Chart, meets, kind, at}
 use Rattle.sweep.specs.State.{Marks}
-use Rattle.sweep.specs.Step.{list, wait, each, examine-free, examine}
+use Rattle.sweep.specs.Step.{wait, each, examine-free, examine}
 use Rattle.sweep.specs.Sought.{first}
 use Rattle.sweep.specs.Geometry.{Occurs}
 use Rattle.sweep.specs.Demand.{Pieces}
-use Rattle.sweep.proofs.Tests.{ask, or-one, or-left, or-right, neither, clash}
+use Rattle.sweep.proofs.Tests.{ask, or-one, neither, clash}
 use Rattle.sweep.proofs.Pairs.{among-in, among-out}
 use Rattle.sweep.proofs.Sorting.{place-in, place-out}
 use Rattle.sweep.proofs.Occurring.{at-occurs}

@@ -1,9 +1,9 @@
 -- The next point: nothing that occurs lies before it, and the pieces that take part are those that lie on it.
-use mathlib.Core.Path.{_≡_, refl, sym, ap, _∙_, subst}
+use mathlib.Core.Path.{_≡_, refl, sym, ap, subst}
 use mathlib.Core.Logic.{_⊎_, inl, inr, ⊎-elim, _≢_, by-cases}
 use mathlib.Core.Bool.{Bool, true, false, cond, _&&_, _||_}
-use mathlib.Core.Option.{Option, none, some}
-use mathlib.Core.List.{List, [], _∷_, _++_, map, Memᴰ·append-left, Memᴰ·append-right, List·Memᴰ·append-cases, Memᴰ·map, Memᴰ·of-map}
+use mathlib.Core.Option.{none, some}
+use mathlib.Core.List.{List, [], _∷_, map, Memᴰ·append-left, Memᴰ·append-right, List·Memᴰ·append-cases, Memᴰ·map, Memᴰ·of-map}
 use mathlib.Core.List.{List·Memᴰ as In, List·Memᴰ·head as here, List·Memᴰ·tail as there}
 use Prim.Native.Nat.{ℕ, _≤_, _<_}
 use native.Mathlib.Omega.{arith}
@@ -18,12 +18,12 @@ use Rattle.sweep.specs.Step.{starts, finishes, turns, takes-part}
 use Rattle.sweep.specs.Sought.{first}
 use Rattle.sweep.specs.Geometry.{Occurs}
 use Rattle.sweep.specs.Demand.{Pieces}
-use Rattle.sweep.proofs.Tests.{ask, and-both, or-one, or-left, or-right, eqb-yes}
+use Rattle.sweep.proofs.Tests.{ask, and-both, or-one, or-right, eqb-yes}
 use Rattle.sweep.proofs.Lists.{keep-in, keep-out, any-in, any-out}
 use Rattle.sweep.proofs.Occurring.{End, Crossing, min-in, max-in, ends-out, end-occurs, min-occurs, max-occurs, at-occurs}
 use Rattle.sweep.proofs.Ranked.{Ranked, less-true, less-false, less-yes, same-yes, same-true}
 use Rattle.sweep.proofs.First.{meets-two, first-crosses, first-min}
-use Rattle.sweep.proofs.Between.{which, bound, bound-none, bound-some, Good, Inv, no-crossing}
+use Rattle.sweep.proofs.Between.{which, bound, bound-none, bound-some, Inv, no-crossing}
 
 module _ (C : Chart) where
   open Chart C using (Point, less, n, min, max, contains)

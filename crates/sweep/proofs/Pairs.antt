@@ -1,17 +1,17 @@
 -- Numbers in order, pairs of them, and adjacent pairs.
-use mathlib.Core.Path.{_≡_, refl, sym, ap, _∙_}
+use mathlib.Core.Path.{_≡_, refl, sym, ap}
 use mathlib.Core.Logic.{_⊎_, inl, inr, ⊎-elim, _≢_, by-cases}
-use mathlib.Core.Bool.{Bool, true, false, cond, _&&_}
-use mathlib.Core.List.{List, [], _∷_, _++_, map, Memᴰ·append-left, Memᴰ·append-right, List·Memᴰ·append-cases, Memᴰ·map, Memᴰ·of-map}
+use mathlib.Core.Bool.{Bool, true, false, _&&_}
+use mathlib.Core.List.{List, [], _∷_, _++_, map, Memᴰ·append-left, Memᴰ·append-right, List·Memᴰ·append-cases, Memᴰ·map}
 use mathlib.Core.List.{List·Memᴰ as In, List·Memᴰ·head as here, List·Memᴰ·tail as there}
-use Prim.Native.Nat.{ℕ, zero, suc, _≤_, _<_}
+use Prim.Native.Nat.{ℕ, zero, suc, _<_}
 use native.Mathlib.Omega.{arith}
 use native.Mathlib.Decide.{ℕ-discrete}
 use lib.Dec.{eqb, ltb}
 use lib.ListN.{length, length-append}
 use borrow.Author.Tests.{ltb-true, ltb-false, eqb-true}
-use Rattle.sweep.specs.Lists.{upto, keep, any, Pair, same-pair, among, pairs, lesser-first, adjacent-from, adjacent, Pairwise}
-use Rattle.sweep.proofs.Tests.{ask, clash, and-both, same-test, eqb-yes}
+use Rattle.sweep.specs.Lists.{upto, keep, Pair, same-pair, among, pairs, lesser-first, adjacent-from, adjacent, Pairwise}
+use Rattle.sweep.proofs.Tests.{ask, and-both, same-test, eqb-yes}
 use Rattle.sweep.proofs.Lists.{keep-append, keep-none, any-in, any-out, pairwise-map, pairwise-append}
 
 pub upto-out : (n : ℕ) {i : ℕ} → In i (upto n) → i < n

@@ -1,29 +1,29 @@
 -- What follows from the strong statement, promise by promise.
-use mathlib.Core.Path.{_≡_, refl, sym, ap, _∙_, subst}
-use mathlib.Core.Logic.{_⊎_, inl, inr, ⊎-elim, _≢_, _↔_}
-use mathlib.Core.Bool.{Bool, true, false, cond, _&&_}
+use mathlib.Core.Path.{_≡_, refl, sym, ap, _∙_}
+use mathlib.Core.Logic.{inl, inr, ⊎-elim, _≢_, _↔_}
+use mathlib.Core.Bool.{true, false, _&&_}
 use mathlib.Core.Option.{Option, none, some}
-use mathlib.Core.List.{List, [], _∷_, _++_, map, Memᴰ·append-left, Memᴰ·append-right, List·Memᴰ·append-cases}
+use mathlib.Core.List.{List, [], _∷_, map, Memᴰ·append-left, Memᴰ·append-right, List·Memᴰ·append-cases}
 use mathlib.Core.List.{List·Memᴰ as In, List·Memᴰ·head as here, List·Memᴰ·tail as there}
-use Prim.Native.Nat.{ℕ, suc, _+_, _*_, _≤_, _<_, min}
+use Prim.Native.Nat.{ℕ, suc, _+_, _*_, _≤_, _<_}
 use native.Mathlib.Omega.{arith}
 use lib.Dec.{ltb}
 use lib.ListN.{length, take, length-append, length-take, length-map}
 use borrow.Author.Tests.{ltb-true}
 use Rattle.sweep.specs.Lists.{Pair, upto, keep, Pairwise}
-use Rattle.sweep.specs.Chart.{crosses, Chart, meets, same, kind, at}
+use Rattle.sweep.specs.Chart.{Chart, meets, same, kind, at}
 use Rattle.sweep.specs.Queue.{ends, next}
-use Rattle.sweep.specs.Run.{run, visited, is-none, answer-of, answer}
+use Rattle.sweep.specs.Run.{run, is-none, answer-of, answer}
 use Rattle.sweep.specs.Sought.{is-crossing, all, first, occurring, settle, settled, points, pairs-at, pairs-along, meeting}
 use Rattle.sweep.specs.Geometry.{Occurs, Geometry}
-use Rattle.sweep.specs.Demand.{SweepsAlways, Pieces, Behind, ListsExactly, ListsOnce, Before, ListsInOrder, VisitsInOrder, CountsSteps, EndsExactly, StepsBounded, ListsAll, Promises}
+use Rattle.sweep.specs.Demand.{Pieces, Behind, ListsExactly, ListsOnce, Before, ListsInOrder, VisitsInOrder, CountsSteps, EndsExactly, StepsBounded, ListsAll, Promises}
 use Rattle.sweep.proofs.Tests.{ask, ltb-yes, clash}
 use Rattle.sweep.proofs.Lists.{keep-in, keep-out, keep-length, take-in, pairwise-map, pairwise-append, pairwise-keep, pairwise-take}
 use Rattle.sweep.proofs.Pairs.{Sooner, sooner-ne, upto-length}
 use Rattle.sweep.proofs.Occurring.{all-in, all-out, all-sooner, is-crossing-true}
 use Rattle.sweep.proofs.Ranked.{Ranked, ranked, less-true, less-false, less-yes, less-no}
 use Rattle.sweep.proofs.First.{two-meet, first-occurs, pairs-at-in, pairs-at-out}
-use Rattle.sweep.proofs.Between.{which, bound, bound-none, bound-some}
+use Rattle.sweep.proofs.Between.{bound, bound-none, bound-some}
 use Rattle.sweep.proofs.Ascending.{Up, points-in, points-out, points-up, below}
 use Rattle.sweep.proofs.Theorem.{sweeps, visited-below, last-occurs, none-all, all-none}
 use Rattle.sweep.proofs.Runs.{runs-on, lists-on, steps-visited, last-visited}

@@ -1,12 +1,12 @@
 -- The facts of geometry told by numbers: each point that occurs has a key, so that their order is arithmetic.
-use mathlib.Core.Path.{_≡_, refl, sym, ap, _∙_}
+use mathlib.Core.Path.{_≡_, sym, _∙_}
 use mathlib.Core.Logic.{_⊎_, inl, inr, ⊎-elim, _≢_}
-use mathlib.Core.Bool.{Bool, true, false, not, _&&_}
+use mathlib.Core.Bool.{true, false, not}
 use Prim.Native.Nat.{ℕ, _≤_, _<_}
 use native.Mathlib.Omega.{arith}
 use lib.Dec.{ltb}
 use borrow.Author.Tests.{ltb-true, ltb-false}
-use Rattle.sweep.specs.Chart.{Kind, nothing, crosses, overlaps, Chart, same}
+use Rattle.sweep.specs.Chart.{crosses, overlaps, Chart, same}
 use Rattle.sweep.specs.Sought.{occurring, later}
 use Rattle.sweep.specs.Geometry.{Occurs, Under, CrossBetween, Geometry}
 use Rattle.sweep.proofs.Tests.{ask, clash, and-both, not-true, ltb-yes, ltb-no}

@@ -1,11 +1,11 @@
 -- The pairs that a step lists: exactly those that meet first at its point, in number order.
 use mathlib.Core.Path.{_≡_, refl, sym, ap, _∙_, subst}
-use mathlib.Core.Logic.{_⊎_, inl, inr, ⊎-elim, _≢_, by-cases}
-use mathlib.Core.Bool.{Bool, true, false, cond, _&&_, not}
+use mathlib.Core.Logic.{⊎-elim, _≢_, by-cases}
+use mathlib.Core.Bool.{Bool, true, false, _&&_, not}
 use mathlib.Core.Option.{some}
 use mathlib.Core.List.{List, [], _∷_, _++_, append-assoc, append-nil, Memᴰ·append-left, Memᴰ·append-right, List·Memᴰ·append-cases}
-use mathlib.Core.List.{List·Memᴰ as In, List·Memᴰ·head as here, List·Memᴰ·tail as there}
-use Prim.Native.Nat.{ℕ, suc, _≤_, _<_}
+use mathlib.Core.List.{List·Memᴰ as In}
+use Prim.Native.Nat.{suc, _≤_, _<_}
 use native.Mathlib.Omega.{arith}
 use native.Mathlib.Decide.{decLt}
 use Rattle.sweep.specs.Lists.{Pair, among, upto, keep, pairs, Pairwise}
@@ -18,7 +18,7 @@ use Rattle.sweep.specs.Geometry.{Occurs}
 use Rattle.sweep.specs.Demand.{Pieces}
 use Rattle.sweep.proofs.Tests.{ask, clash, and-both, not-true, same-test}
 use Rattle.sweep.proofs.Lists.{keep-yes, keep-no, keep-out, keep-keep, keep-same, pairwise-keep}
-use Rattle.sweep.proofs.Pairs.{both, pairs-keep, among-in, among-out, among-no, among-snoc}
+use Rattle.sweep.proofs.Pairs.{both, pairs-keep, among-in, among-no, among-snoc}
 use Rattle.sweep.proofs.Occurring.{all-out, all-once, at-occurs}
 use Rattle.sweep.proofs.Ranked.{Ranked, same-yes, same-true, same-false}
 use Rattle.sweep.proofs.First.{first-on, first-occurs, first-least, pairs-at-in, pairs-at-out}

@@ -1,10 +1,9 @@
 -- What holds of every run, whatever the geometry: runs add up, a step only adds to the list, and counts itself.
-use mathlib.Core.Path.{_≡_, refl, sym, ap, _∙_, subst}
-use mathlib.Core.Logic.{_⊎_, inl, inr, ⊎-elim, by-cases}
+use mathlib.Core.Path.{_≡_, refl, sym, ap, _∙_}
 use mathlib.Core.Bool.{Bool, true, false, cond, _&&_, _||_, not}
 use mathlib.Core.Option.{Option, none, some}
 use mathlib.Core.List.{List, [], _∷_, _++_, append-assoc, append-nil}
-use Prim.Native.Nat.{ℕ, zero, suc, _+_, _-_, _≤_}
+use Prim.Native.Nat.{ℕ, zero, suc, _+_, _-_}
 use native.Mathlib.Omega.{arith}
 use native.Mathlib.Nat.{add-zero, add-suc}
 use lib.ListN.{length, length-append}
@@ -15,7 +14,6 @@ use Rattle.sweep.specs.Queue.{next}
 use Rattle.sweep.specs.Step.{list, wait, each, report, drop, pieces, reported, examine-free, examine, stay, ranged, examined, step}
 use Rattle.sweep.specs.Run.{move-to, move, onwards, run, taken, visited, answer-of, answer}
 use Rattle.sweep.specs.Demand.{LastVisited, RunsOn, ListsOn}
-use Rattle.sweep.proofs.Tests.{ask}
 
 -- the second list begins with the first
 record Begins (l m : List Pair) : Type 0 where

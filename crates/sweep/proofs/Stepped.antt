@@ -1,15 +1,15 @@
 -- One step keeps what holds between steps, and lists the pairs that meet first at its point.
-use mathlib.Core.Path.{_≡_, refl, sym, ap, _∙_, subst}
-use mathlib.Core.Logic.{_⊎_, inl, inr, ⊎-elim, _≢_, by-cases}
-use mathlib.Core.Bool.{Bool, true, false, _&&_, _||_, not}
-use mathlib.Core.Option.{Option, some}
+use mathlib.Core.Path.{_≡_, ap, _∙_, subst}
+use mathlib.Core.Logic.{_⊎_, ⊎-elim, _≢_, by-cases}
+use mathlib.Core.Bool.{true, false, _&&_, _||_, not}
+use mathlib.Core.Option.{some}
 use mathlib.Core.List.{List, _++_, Memᴰ·append-left, Memᴰ·append-right, List·Memᴰ·append-cases}
 use mathlib.Core.List.{List·Memᴰ as In}
-use Prim.Native.Nat.{ℕ, suc, _≤_, _<_}
+use Prim.Native.Nat.{ℕ, _<_}
 use native.Mathlib.Omega.{arith}
 use native.Mathlib.Decide.{decLt}
-use Rattle.sweep.specs.Lists.{Pair, lesser-first, upto, keep, sort, adjacent, Pairwise}
-use Rattle.sweep.specs.Chart.{Chart, same}
+use Rattle.sweep.specs.Lists.{Pair, lesser-first, upto, adjacent, Pairwise}
+use Rattle.sweep.specs.Chart.{Chart}
 use Rattle.sweep.specs.State.{Marks, State}
 use Rattle.sweep.specs.Queue.{next}
 use Rattle.sweep.specs.Step.{each, starts, finishes, turns, reported, examine, stay, enter, ranged, examined, step}

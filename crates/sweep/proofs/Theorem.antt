@@ -1,7 +1,6 @@
 -- The sweep visits the points in order, and lists point by point the pairs that meet first there: SweepsAlways.
 use mathlib.Core.Path.{_≡_, refl, sym, ap, _∙_}
 use mathlib.Core.Logic.{_⊎_, inl, inr, ⊎-elim, by-cases}
-use mathlib.Core.Bool.{Bool, true, false}
 use mathlib.Core.Option.{Option, none, some}
 use mathlib.Core.List.{List, [], _∷_, _++_, append-assoc, append-nil}
 use mathlib.Core.List.{List·Memᴰ as In}
@@ -11,18 +10,18 @@ use native.Mathlib.Decide.{decLt}
 use lib.ListN.{length, take, length-append, length-take}
 use lib.Seq.{take-all}
 use Rattle.sweep.specs.Lists.{Pair, adjacent}
-use Rattle.sweep.specs.Chart.{Chart, kind, at}
+use Rattle.sweep.specs.Chart.{Chart, at}
 use Rattle.sweep.specs.State.{State, start}
-use Rattle.sweep.specs.Queue.{queue, least, next}
+use Rattle.sweep.specs.Queue.{queue, next}
 use Rattle.sweep.specs.Step.{step}
 use Rattle.sweep.specs.Run.{move-to, move, onwards, run, taken, visited, answer-of, answer}
 use Rattle.sweep.specs.Sought.{points, pairs-at, pairs-along}
-use Rattle.sweep.specs.Geometry.{Occurs, Geometry}
-use Rattle.sweep.specs.Demand.{Sweeps, SweepsAlways}
+use Rattle.sweep.specs.Geometry.{Occurs}
+use Rattle.sweep.specs.Demand.{SweepsAlways}
 use Rattle.sweep.proofs.Tests.{ltb-no}
 use Rattle.sweep.proofs.Lists.{keep-none}
 use Rattle.sweep.proofs.Occurring.{End, Crossing, occurs-out}
-use Rattle.sweep.proofs.Ranked.{Ranked, ranked}
+use Rattle.sweep.proofs.Ranked.{Ranked}
 use Rattle.sweep.proofs.Between.{which, bound, Inv, no-crossing}
 use Rattle.sweep.proofs.Next.{least-none, queue-min, queue-max, queue-wait, next-occurs, next-new, no-min, no-max, no-wait}
 use Rattle.sweep.proofs.Stepped.{step-inv, step-listed}

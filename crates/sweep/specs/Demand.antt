@@ -1,7 +1,7 @@
 -- What is promised of the sweep on a chart, each promise under the sentence that it states.
 use mathlib.Core.Path.{_≡_}
 use mathlib.Core.Logic.{_⊎_, _≢_, _↔_}
-use mathlib.Core.Bool.{Bool, true, false}
+use mathlib.Core.Bool.{true, false}
 use mathlib.Core.Option.{Option, none, some}
 use mathlib.Core.List.{List, _++_}
 use mathlib.Core.List.{List·Memᴰ as In}

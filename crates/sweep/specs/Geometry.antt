@@ -1,10 +1,10 @@
 -- What the sweep needs of geometry. The theorem is proved from this record; the record is supplied from integers.
 use mathlib.Core.Path.{_≡_}
 use mathlib.Core.Logic.{_⊎_, _≢_}
-use mathlib.Core.Bool.{Bool, true, false}
+use mathlib.Core.Bool.{true, false}
 use mathlib.Core.List.{List·Memᴰ as In}
 use Prim.Native.Nat.{ℕ, _<_}
-use Rattle.sweep.specs.Chart.{Kind, nothing, crosses, overlaps, Chart}
+use Rattle.sweep.specs.Chart.{crosses, overlaps, Chart}
 use Rattle.sweep.specs.Sought.{occurring, later}
 
 module _ (C : Chart) where

@@ -1,5 +1,5 @@
 -- The words on lists in which the sweep is told.
-use mathlib.Core.Bool.{Bool, true, false, cond, _&&_, _||_}
+use mathlib.Core.Bool.{Bool, false, cond, _&&_, _||_}
 use mathlib.Core.List.{List, [], _∷_, _++_, map}
 use mathlib.Core.List.{List·Memᴰ as In}
 use mathlib.Core.Option.{Option, none, some}

@@ -1,7 +1,6 @@
 -- What the sweep is to find, told without a sweep: the points in order, and at each the pairs that meet first there.
 use mathlib.Core.Bool.{Bool, true, false, cond, _&&_}
 use mathlib.Core.List.{List, [], _∷_, _++_, map}
-use Prim.Native.Nat.{ℕ}
 use Rattle.sweep.specs.Lists.{Pair, upto, keep, pairs}
 use Rattle.sweep.specs.Chart.{Kind, nothing, crosses, overlaps, Chart, meets, same, kind, at}
 use Rattle.sweep.specs.Queue.{ends}

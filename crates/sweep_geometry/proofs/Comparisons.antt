@@ -1,11 +1,11 @@
 -- Comparisons that order: turned round they answer the other way, equals are alike, and they chain.
 -- By fractions (`fraction-orders`), by one and then another (`then-orders`), by number (`number-orders`).
-use mathlib.Core.Path.{_≡_, refl, sym, ap, ap₂, _∙_, subst}
+use mathlib.Core.Path.{_≡_, refl, sym, ap, ap₂, _∙_}
 use mathlib.Core.Logic.{_≢_}
 use mathlib.Core.List.{[], _∷_}
 use Prim.Native.Nat.{ℕ}
 use native.Mathlib.Omega.{arith}
-use lib.IntN.{ℤ, pos, _+ℤ_, _-ℤ_, _*ℤ_}
+use lib.IntN.{ℤ, pos, _*ℤ_}
 use lib.Signed.{_<ℤ_}
 use Rattle.integers.proofs.Identity.{by-ring, terms}
 use Rattle.integers.proofs.Order.{<-trans}

@@ -1,14 +1,14 @@
 -- The order of the active list at a point: it orders, and on sloped pieces it is told by the gap and the tilt.
-use mathlib.Core.Path.{_≡_, refl, sym, ap, ap₂, _∙_, subst}
-use mathlib.Core.Logic.{_⊎_, inl, inr, _≢_}
-use mathlib.Core.Bool.{Bool, true, false, cond}
+use mathlib.Core.Path.{_≡_, refl, sym, ap, _∙_}
+use mathlib.Core.Logic.{_≢_}
+use mathlib.Core.Bool.{true, false}
 use mathlib.Core.List.{[], _∷_}
 use Prim.Native.Nat.{ℕ, _<_}
 use native.Mathlib.Omega.{arith}
-use lib.IntN.{ℤ, pos, _+ℤ_, _-ℤ_, _*ℤ_}
-use lib.Signed.{_≤ℤ_, _<ℤ_, ≤ℤ-refl}
+use lib.IntN.{ℤ, pos, _-ℤ_, _*ℤ_}
+use lib.Signed.{_<ℤ_}
 use Rattle.integers.proofs.Identity.{by-ring, terms}
-use Rattle.integers.proofs.Signs.{<-diff, ≤-diff, p*p, <→≤}
+use Rattle.integers.proofs.Signs.{<-diff, p*p}
 use Rattle.integers.proofs.Order.{<-cert}
 use Rattle.integers.proofs.Naturals.{pos-<, pos-injective}
 use Rattle.fractions.specs.Order.{order, turned, andThen}
@@ -18,9 +18,9 @@ use Rattle.fractions.specs.declared.Point.{Point}
 use Rattle.fractions.proofs.Orders.{Answer, is-less, is-equal, is-greater, answer, order-less, order-equal, order-greater, equal-order}
 use Rattle.line_segment.specs.declared.LineSegment.{LineSegment}
 use Rattle.line_segment.specs.Geometry.{run, rise}
-use Rattle.sweep.specs.Ported.{isLess, isUpright, heightAbove, heightBelow, slopeOrder}
+use Rattle.sweep.specs.Ported.{isLess, heightAbove, heightBelow, slopeOrder}
 use Rattle.sweep_geometry.specs.Full.{fullAbove, fullBelow, fullHeightOrder, fullOrder}
-use Rattle.sweep_geometry.proofs.Comparisons.{never, Said, said-less, said-equal, said-greater, say, then-equal, Orders, then-orders, order-scaled, fraction-orders, number-orders}
+use Rattle.sweep_geometry.proofs.Comparisons.{Said, said-less, said-equal, said-greater, say, then-equal, Orders, then-orders, order-scaled, fraction-orders, number-orders}
 use Rattle.sweep_geometry.proofs.Slopes.{Lie, sloped, standing, sloped-not, standing-is, slope-orders}
 use Rattle.sweep_geometry.proofs.Gap.{tilt, gap, slope-tilt, sloped-above, gap-heights}
 
@@ -93,7 +93,7 @@ module _ (piece : ℕ → LineSegment) where
         go (said-greater h) = ap isLess ((full-orders d) .turns i j a b ∙ ap turned h)
 
 -- ---- sloped pieces: by the gap, then by the tilt
-order-diff : (a b : ℤ) → order a b ≡ order (pos 0) (b -ℤ a)
+pub order-diff : (a b : ℤ) → order a b ≡ order (pos 0) (b -ℤ a)
 order-diff a b = go (answer a b)
   where
     go : {o : Order} → Answer a b o → o ≡ order (pos 0) (b -ℤ a)
@@ -104,7 +104,7 @@ order-diff a b = go (answer a b)
         under : pos 0 <ℤ (a -ℤ b) → (b -ℤ a) <ℤ pos 0
         under k = <-cert (a ∷ b ∷ []) k (search terms depth 60 fits 20000) tt
 
-zero-times : (z : ℤ) → pos 0 *ℤ z ≡ pos 0
+pub zero-times : (z : ℤ) → pos 0 *ℤ z ≡ pos 0
 zero-times z = by-ring (z ∷ []) (search terms depth 60 fits 20000) tt
 
 module _ (a b : LineSegment) (p : Point) (d : 0 < p .d) where

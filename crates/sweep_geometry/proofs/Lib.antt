@@ -2,3 +2,12 @@ pub mod Comparisons
 pub mod Gap
 pub mod Slopes
 pub mod Heights
+pub mod Inside
+pub mod Asked
+pub mod Turning
+pub mod Uprights
+pub mod Squeeze
+pub mod Aligned
+pub mod Supply
+pub mod Promises
+pub mod FirstCommon

@@ -1,20 +1,18 @@
 -- A piece of some length is sloped or upright; the order of slopes, in which an upright piece is the steepest.
-use mathlib.Core.Path.{_≡_, refl, sym, ap, ap₂, _∙_, subst}
-use mathlib.Core.Bool.{Bool, true, false, cond}
+use mathlib.Core.Path.{_≡_, refl, sym, ap, _∙_}
+use mathlib.Core.Bool.{true, false}
 use mathlib.Core.List.{[], _∷_}
-use Prim.Native.Nat.{ℕ}
 use native.Mathlib.Omega.{arith}
-use lib.IntN.{ℤ, pos, negℤ, _+ℤ_, _-ℤ_, _*ℤ_}
-use lib.Signed.{_≤ℤ_, _<ℤ_}
+use lib.IntN.{ℤ, pos, _-ℤ_, _*ℤ_}
+use lib.Signed.{_<ℤ_}
 use Rattle.integers.proofs.Identity.{by-ring, terms}
-use Rattle.integers.proofs.Signs.{<-diff, diff-<, p*p, <→≤}
-use Rattle.integers.proofs.Order.{<-cert, <→≢}
-use Rattle.fractions.specs.Order.{order, turned, andThen}
+use Rattle.integers.proofs.Signs.{<-diff, diff-<, p*p}
+use Rattle.fractions.specs.Order.{turned, andThen}
 use Rattle.fractions.specs.declared.Order.{Order}
 use Rattle.fractions.specs.declared.Order.the-variants.{Less, Equal, Greater}
-use Rattle.fractions.proofs.Orders.{Answer, is-less, is-equal, is-greater, answer, order-less, order-equal, order-greater, less-order, equal-order, greater-order, order-turned}
+use Rattle.fractions.proofs.Orders.{Answer, is-less, is-equal, is-greater, answer, order-less, order-equal, order-greater, order-turned}
 use Rattle.line_segment.specs.declared.LineSegment.{LineSegment}
-use Rattle.line_segment.specs.Piece.{endOrder, HasLength}
+use Rattle.line_segment.specs.Piece.{HasLength}
 use Rattle.line_segment.specs.Geometry.{run, rise}
 use Rattle.line_segment.proofs.Ends.{end-order-is}
 use Rattle.sweep.specs.Ported.{isEqual, isUpright, slopeOrder}
@@ -57,11 +55,11 @@ times-zero : (z : ℤ) → z *ℤ pos 0 ≡ pos 0
 times-zero z = by-ring (z ∷ []) (search terms depth 60 fits 20000) tt
 
 module _ (a b : LineSegment) where
-  slope-up : pos 0 <ℤ run a → run b ≡ pos 0 → pos 0 <ℤ rise b → slopeOrder a b ≡ Less
+  pub slope-up : pos 0 <ℤ run a → run b ≡ pos 0 → pos 0 <ℤ rise b → slopeOrder a b ≡ Less
   unfolding slopeOrder
   slope-up h e k = rw (e, times-zero (rise a)) (order-less (p*p k h))
 
-  slope-down : run a ≡ pos 0 → pos 0 <ℤ rise a → pos 0 <ℤ run b → slopeOrder a b ≡ Greater
+  pub slope-down : run a ≡ pos 0 → pos 0 <ℤ rise a → pos 0 <ℤ run b → slopeOrder a b ≡ Greater
   unfolding slopeOrder
   slope-down e k h = rw (e, times-zero (rise b)) (order-greater (p*p k h))
 

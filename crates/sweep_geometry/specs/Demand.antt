@@ -1,0 +1,51 @@
+-- What is promised of the sweep on pieces with integer ends.
+use mathlib.Core.Path.{_≡_}
+use mathlib.Core.Bool.{true, false}
+use Prim.Native.Nat.{ℕ, _<_, _≤_, _^_}
+use lib.IntN.{natAbs}
+use Rattle.fractions.specs.Point.{pointOrder}
+use Rattle.fractions.specs.declared.Order.the-variants.{Greater}
+use Rattle.fractions.specs.declared.Point.{Point}
+use Rattle.line_segment.specs.declared.LineSegment.{LineSegment}
+use Rattle.line_segment.specs.Piece.{HasLength, closed}
+use Rattle.line_segment.specs.Geometry.{Common}
+use Rattle.sweep.specs.Lists.{Pair}
+use Rattle.sweep.specs.Chart.{meets, kind}
+use Rattle.sweep.specs.Sought.{first}
+use Rattle.sweep.specs.Demand.{Pieces, Promises}
+use Rattle.sweep.specs.Ported.{isUpright, ported}
+use Rattle.sweep_geometry.specs.Full.{full}
+
+-- a piece of some length whose coordinates fit 16 bits
+pub record Proper (s : LineSegment) : Type 0 where
+  pub length : HasLength s
+  pub x1 : natAbs (s .min .x) ≤ 2 ^ 15
+  pub y1 : natAbs (s .min .y) ≤ 2 ^ 15
+  pub x2 : natAbs (s .max .x) ≤ 2 ^ 15
+  pub y2 : natAbs (s .max .y) ≤ 2 ^ 15
+
+module _ (n : ℕ) (piece : ℕ → LineSegment) where
+  abbrev pub AllProper : Type 0
+  AllProper = (i : ℕ) → i < n → Proper (piece i)
+
+  abbrev pub NoneUpright : Type 0
+  NoneUpright = (i : ℕ) → i < n → isUpright (piece i) ≡ false
+
+-- on a chart with no upright piece, wherever the ported sweep is stopped, nothing that lies behind it is missing
+abbrev pub PortedSweeps : Type 0
+PortedSweeps = (n : ℕ) (piece : ℕ → LineSegment) → AllProper n piece → NoneUpright n piece → Promises (ported n piece)
+
+-- where an upright piece has the height of the point visited, on every chart
+abbrev pub FullSweeps : Type 0
+FullSweeps = (n : ℕ) (piece : ℕ → LineSegment) → AllProper n piece → Promises (full n piece)
+
+-- "the least point of the common part with its ends added, included or not"
+pub record LeastCommon (a b : LineSegment) (p : Point) : Type 0 where
+  pub common : Common (closed a) (closed b) p
+  pub least : (q : Point) → Common (closed a) (closed b) q → ¬ (pointOrder p q ≡ Greater)
+
+-- "First common point of a pair that meets": what the sweep's definitions take for it is that
+abbrev pub FirstIsLeast : Type 0
+FirstIsLeast =
+    (n : ℕ) (piece : ℕ → LineSegment) → AllProper n piece → (q : Pair) → Pieces (ported n piece) q
+    → meets (kind (ported n piece) q) ≡ true → LeastCommon (piece (q .0)) (piece (q .1)) (first (ported n piece) q)
