@@ -16,3 +16,4 @@ pub mod Nexts
 pub mod Flags
 pub mod Roles
 pub mod Joining
+pub mod Taking

@@ -72,7 +72,7 @@ module _ (C : Chart) where
     turning = flag (pieces crossings-here) (replicate most 0)
 
     unfoldable pub here : List ℕ
-    here = join-all most (halves ends-here ++ pieces crossings-here ++ keep (λ i. contains i p) (s .active)) []
+    here = join-all most (halves ends-here ++ (pieces crossings-here ++ keep (λ i. contains i p) (s .active))) []
 
     -- the ledger with p's crossings dropped
     unfoldable pub dropped : Ledger
