@@ -17,3 +17,4 @@ pub mod Flags
 pub mod Roles
 pub mod Joining
 pub mod Taking
+pub mod Begun
