@@ -18,3 +18,5 @@ pub mod Roles
 pub mod Joining
 pub mod Taking
 pub mod Begun
+pub mod Ranging
+pub mod Stepping
