@@ -19,7 +19,7 @@ unfolding flagged
 flagged-set l x i h =
     ⊎-elim
     (λ (e : eqb i x ≡ true).
-      rw e (ap (λ (z : ℕ). eqb z 1) (subst (λ (z : ℕ). getD (set l z 1) i 0 ≡ 1) (eqb-true i x e) (getD-set-same l i 1 0 h))))
+    rw e (ap (λ (z : ℕ). eqb z 1) (subst (λ (z : ℕ). getD (set l z 1) i 0 ≡ 1) (eqb-true i x e) (getD-set-same l i 1 0 h))))
     (λ (e : eqb i x ≡ false). rw e (ap (λ (z : ℕ). eqb z 1) (getD-set-other l x i 1 0 (eqb-false i x e))))
     (ask (eqb i x))
 

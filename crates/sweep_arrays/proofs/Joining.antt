@@ -37,8 +37,8 @@ ascending-one (x ∷ l) (y ∷ m) u v f g =
     let e : x ≡ y = omega (arith, head-least y x m v (f x (here refl)), head-least x y l u (g y (here refl))) in
     ap₂ (λ (a : ℕ) (k : List ℕ). a ∷ k) e
     (ascending-one l m (u .1) (v .1)
-      (λ z h. tail-in x y z l m e u h (f z (there h)))
-      (λ z h. tail-in y x z m l (sym e) v h (g z (there h))))
+    (λ z h. tail-in x y z l m e u h (f z (there h)))
+    (λ z h. tail-in y x z m l (sym e) v h (g z (there h))))
 
 place-ascending : (v : ℕ) (l : List ℕ) → Ascending l → ¬ In v l → Ascending (place ltb v l)
 unfolding place
@@ -47,11 +47,12 @@ place-ascending v (x ∷ l) u new =
     ⊎-elim
     (λ (e : ltb v x ≡ true). rw (e, place) (λ y m. omega (arith, ltb-true v x e, head-least x y l u m), u))
     (λ (e : ltb v x ≡ false).
-      rw (e, place) (λ y m. behind y (ltb-false v x e) (place-out ltb v l m), place-ascending v l (u .1) (λ m. new (there m))))
+    rw (e, place) (λ y m. behind y (ltb-false v x e) (place-out ltb v l m), place-ascending v l (u .1) (λ m. new (there m))))
     (ask (ltb v x))
   where
     apart : v ≢ x
     apart e = new (here e)
+
     behind : (y : ℕ) → x ≤ v → In y (v ∷ l) → x < y
     behind y h (here e) = omega (arith, apart)
     behind y h (there m) = u .0 y m
@@ -64,10 +65,13 @@ module _ (n room : ℕ) (few : n ≤ room) where
 
   there-is-room : (v : ℕ) (l : List ℕ) → Joined l → v < n → ¬ In v l → length l < room
   there-is-room v l J h new =
-      omega (arith, upto-length n,
+      omega (
+        arith,
+        upto-length n,
         distinct-fit (v ∷ l) (upto n)
-        (λ y m e. new (subst (λ (z : ℕ). In z l) (sym e) m), pairwise-map _ _ l (λ x y m k (o : x < y) e. omega arith) (J .up))
-        (λ y m. upto-in n y (below y m)))
+            (λ y m e. new (subst (λ (z : ℕ). In z l) (sym e) m), pairwise-map _ _ l (λ x y m k (o : x < y) e. omega arith) (J .up))
+            (λ y m. upto-in n y (below y m)),
+      )
     where
       below : (y : ℕ) → In y (v ∷ l) → y < n
       below y (here e) = omega arith
@@ -79,11 +83,11 @@ module _ (n room : ℕ) (few : n ≤ room) where
   join-one v l J h =
       ⊎-elim
       (λ (e : any (eqb v) l ≡ true).
-        let r = any-out (eqb v) l e in
-        inl (rw e, subst (λ (z : ℕ). In z l) (sym (eqb-true v (r .0) (r .2))) (r .1)))
+      let r = any-out (eqb v) l e in
+      inl (rw e, subst (λ (z : ℕ). In z l) (sym (eqb-true v (r .0) (r .2))) (r .1)))
       (λ (e : any (eqb v) l ≡ false).
-        let new : ¬ In v l = λ m. clash (any-in (eqb v) m (eqb-yes v v refl)) e in
-        inr (rw (e, ltb-yes (length l) room (there-is-room v l J h new)), new))
+      let new : ¬ In v l = λ m. clash (any-in (eqb v) m (eqb-yes v v refl)) e in
+      inr (rw (e, ltb-yes (length l) room (there-is-room v l J h new)), new))
       (ask (any (eqb v) l))
 
   joined-one : (v : ℕ) (l : List ℕ) → Joined l → v < n → Joined (join room v l) × ((z : ℕ) → In z (join room v l) → In z (v ∷ l)) × ((z : ℕ) → In z (v ∷ l) → In z (join room v l))
@@ -92,21 +96,23 @@ module _ (n room : ℕ) (few : n ≤ room) where
       put : (z : ℕ) → In v l → In z (v ∷ l) → In z l
       put z m (here e) = subst (λ (y : ℕ). In y l) (sym e) m
       put z m (there k) = k
+
       go : ((join room v l ≡ l) × In v l) ⊎ ((join room v l ≡ place ltb v l) × (¬ In v l))
-        → Joined (join room v l) × ((z : ℕ) → In z (join room v l) → In z (v ∷ l)) × ((z : ℕ) → In z (v ∷ l) → In z (join room v l))
+          → Joined (join room v l) × ((z : ℕ) → In z (join room v l) → In z (v ∷ l)) × ((z : ℕ) → In z (v ∷ l) → In z (join room v l))
       go (inl (e, m)) = rw e (J, λ z k. there k, λ z k. put z m k)
       go (inr (e, new)) =
-          rw e
-          (record { up = place-ascending v l (J .up) new; below = λ y k. low y (place-out ltb v l k) },
-          λ z k. place-out ltb v l k,
-          λ z k. place-in ltb v l k)
+          rw e (
+            record { up = place-ascending v l (J .up) new; below = λ y k. low y (place-out ltb v l k) },
+            λ z k. place-out ltb v l k,
+            λ z k. place-in ltb v l k,
+          )
         where
           low : (y : ℕ) → In y (v ∷ l) → y < n
           low y (here f) = omega arith
           low y (there k) = J .below y k
 
   pub joined-all : (vs l : List ℕ) → Joined l → ((v : ℕ) → In v vs → v < n)
-    → Joined (join-all room vs l) × ((z : ℕ) → In z (join-all room vs l) → In z vs ⊎ In z l) × ((z : ℕ) → In z vs ⊎ In z l → In z (join-all room vs l))
+      → Joined (join-all room vs l) × ((z : ℕ) → In z (join-all room vs l) → In z vs ⊎ In z l) × ((z : ℕ) → In z vs ⊎ In z l → In z (join-all room vs l))
   unfolding join-all
   joined-all [] l J h = (J, λ z m. inr m, λ z m. none z m)
     where
@@ -125,6 +131,7 @@ module _ (n room : ℕ) (few : n ≤ room) where
           split : In z (v ∷ l) → In z (v ∷ vs) ⊎ In z l
           split (here e) = inl (here e)
           split (there k) = inr k
+
       into : (z : ℕ) → (In z (v ∷ l) → In z (join room v l)) → (In z vs ⊎ In z (join room v l) → In z (join-all room vs (join room v l))) → In z (v ∷ vs) ⊎ In z l → In z (join-all room vs (join room v l))
       into z f g (inl (here e)) = g (inr (f (here e)))
       into z f g (inl (there m)) = g (inl m)

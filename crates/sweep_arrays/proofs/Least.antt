@@ -72,9 +72,11 @@ module _ (C : Chart) (O : Ordered C) where
       r-fit : (x : Point) → Fit x → (r : Point) → In r (x ∷ l) → Fit r
       r-fit x f r (here e) = rw e f
       r-fit x f r (there m) = h r (there m)
+
       skip : (r : Point) → In r (p ∷ l) → In r (p ∷ q ∷ l)
       skip r (here e) = here e
       skip r (there m) = there (there m)
+
       fell : less q p ≡ true → Least (least-from C q l) (q ∷ l) → Least (least-from C q l) (p ∷ q ∷ l)
       fell e L = record { is-in = there (L .is-in); none-before = λ y m. go y m }
         where
@@ -84,6 +86,7 @@ module _ (C : Chart) (O : Ordered C) where
               (not-after C O (least-from C q l) q p (r-fit q (h q (here refl)) _ (L .is-in)) (h q (here refl)) a (L .none-before q (here refl))
               (asym C O q p (h q (here refl)) a e))
           go y (there m) = L .none-before y m
+
       stayed : less q p ≡ false → Least (least-from C p l) (p ∷ l) → Least (least-from C p l) (p ∷ q ∷ l)
       stayed e L = record { is-in = skip _ (L .is-in); none-before = λ y m. go y m }
         where
@@ -144,11 +147,11 @@ module _ (C : Chart) (O : Ordered C) where
     queue-out x m =
         ⊎-elim
         (λ (h : In x (keep (beyond C (s .last)) (ends C (upto n)))).
-          let k = keep-out (beyond C (s .last)) (ends C (upto n)) h in
-          inl (from-end (ends-out C (k .0)) (k .1)))
+        let k = keep-out (beyond C (s .last)) (ends C (upto n)) h in
+        inl (from-end (ends-out C (k .0)) (k .1)))
         (λ (h : In x (map (at C) (s .marks .waiting))).
-          let r = Memᴰ·of-map (at C) (s .marks .waiting) h in
-          inr (r .0, r .1, sym (r .2)))
+        let r = Memᴰ·of-map (at C) (s .marks .waiting) h in
+        inr (r .0, r .1, sym (r .2)))
         (List·Memᴰ·append-cases (keep (beyond C (s .last)) (ends C (upto n))) m)
       where
         from-end : (i : ℕ) × (i < n) × ((x ≡ min i) ⊎ (x ≡ max i)) → beyond C (s .last) x ≡ true → (e : ℕ) × In e (a .ends) × (x ≡ endOf C e)

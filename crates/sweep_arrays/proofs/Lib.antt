@@ -20,3 +20,4 @@ pub mod Taking
 pub mod Begun
 pub mod Ranging
 pub mod Stepping
+pub mod Simulation

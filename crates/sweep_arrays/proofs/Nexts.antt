@@ -27,16 +27,16 @@ module _ (C : Chart) (O : Ordered C) (places : ℕ) (lent : List ℕ) (R : Room 
 
   -- least, where no end that is left and no crossing that waits is before it
   least-by : (p : Point) → In p (queue C s) → ((e : ℕ) → In e (a .ends) → less (endOf C e) p ≡ false)
-    → ((q : Pair) → In q (s .marks .waiting) → less (at C q) p ≡ false) → least C (queue C s) ≡ some p
+      → ((q : Pair) → In q (s .marks .waiting) → less (at C q) p ≡ false) → least C (queue C s) ≡ some p
   least-by p m he hq =
       least-is C O p (queue C s) (queue-fit C O places lent R a s G)
       (record {
         is-in = m;
         none-before = λ y k.
-          ⊎-elim
-          (λ (h : (e : ℕ) × In e (a .ends) × (y ≡ endOf C e)). rw (h .2) (he (h .0) (h .1)))
-          (λ (h : (q : Pair) × In q (s .marks .waiting) × (y ≡ at C q)). rw (h .2) (hq (h .0) (h .1)))
-          (queue-out C O places lent R a s G y k)
+            ⊎-elim
+            (λ (h : (e : ℕ) × In e (a .ends) × (y ≡ endOf C e)). rw (h .2) (he (h .0) (h .1)))
+            (λ (h : (q : Pair) × In q (s .marks .waiting) × (y ≡ at C q)). rw (h .2) (hq (h .0) (h .1)))
+            (queue-out C O places lent R a s G y k);
       })
 
   fit-e : (e : ℕ) → In e (a .ends) → O .Fit (endOf C e)
@@ -68,10 +68,10 @@ module _ (C : Chart) (O : Ordered C) (places : ℕ) (lent : List ℕ) (R : Room 
   unfolding next-by
   next-cases [] [] d f =
       sym (least-empty C O (queue C s) (λ y m.
-        ⊎-elim
-        (λ (h : (e : ℕ) × In e (a .ends) × (y ≡ endOf C e)). elim (subst (λ (l : List ℕ). In (h .0) l) d (h .1)) [ ])
-        (λ (h : (q : Pair) × In q (s .marks .waiting) × (y ≡ at C q)). elim (subst (λ (l : List Pair). In (h .0) l) f (h .1)) [ ])
-        (queue-out C O places lent R a s G y m)))
+      ⊎-elim
+      (λ (h : (e : ℕ) × In e (a .ends) × (y ≡ endOf C e)). elim (subst (λ (l : List ℕ). In (h .0) l) d (h .1)) [ ])
+      (λ (h : (q : Pair) × In q (s .marks .waiting) × (y ≡ at C q)). elim (subst (λ (l : List Pair). In (h .0) l) f (h .1)) [ ])
+      (queue-out C O places lent R a s G y m)))
   next-cases [] (q ∷ qs) d f =
       let m : In q (s .marks .waiting) = rw f (here refl) in
       ap some (at-cell q m)
@@ -84,16 +84,16 @@ module _ (C : Chart) (O : Ordered C) (places : ℕ) (lent : List ℕ) (R : Room 
       let mq : In q (s .marks .waiting) = rw f (here refl) in
       ⊎-elim
       (λ (h : less (at C q) (endOf C e) ≡ true).
-        rw (at-cell q mq, h)
-        (sym (least-by (at C q) (wait-queued C O places lent R a s G q mq)
-          (λ g k.
-            not-after C O (at C q) (endOf C e) (endOf C g) (fit-q q mq) (fit-e e me) (fit-e g k) (asym C O (at C q) (endOf C e) (fit-q q mq) (fit-e e me) h)
-            (first-end e es d g k))
-          (first-wait q qs f))))
+      rw (at-cell q mq, h)
+      (sym (least-by (at C q) (wait-queued C O places lent R a s G q mq)
+      (λ g k.
+      not-after C O (at C q) (endOf C e) (endOf C g) (fit-q q mq) (fit-e e me) (fit-e g k) (asym C O (at C q) (endOf C e) (fit-q q mq) (fit-e e me) h)
+      (first-end e es d g k))
+      (first-wait q qs f))))
       (λ (h : less (at C q) (endOf C e) ≡ false).
-        rw (at-cell q mq, h)
-        (sym (least-by (endOf C e) (end-queued C O places lent R a s G e me) (first-end e es d)
-          (λ r k. not-after C O (endOf C e) (at C q) (at C r) (fit-e e me) (fit-q q mq) (fit-q r k) h (first-wait q qs f r k)))))
+      rw (at-cell q mq, h)
+      (sym (least-by (endOf C e) (end-queued C O places lent R a s G e me) (first-end e es d)
+      (λ r k. not-after C O (endOf C e) (at C q) (at C r) (fit-e e me) (fit-q q mq) (fit-q r k) h (first-wait q qs f r k)))))
       (ask (less (at C q) (endOf C e)))
 
   pub next-agrees : next-on C a ≡ next C s

@@ -43,7 +43,7 @@ use Rattle.sweep_arrays.proofs.Begun.{Begun, Ahead, AllAhead, reports-a
 
 -- sorting keeps members apart
 into-once : (before : ℕ → ℕ → Bool) (done l : List ℕ) → Pairwise (λ x y. x ≢ y) done → Pairwise (λ x y. x ≢ y) l
-  → ((x y : ℕ) → In x l → In y done → x ≢ y) → Pairwise (λ x y. x ≢ y) (sort-into before done l)
+    → ((x y : ℕ) → In x l → In y done → x ≢ y) → Pairwise (λ x y. x ≢ y) (sort-into before done l)
 unfolding sort-into
 into-once before done [] d e a = d
 into-once before done (x ∷ l) d e a =
@@ -102,7 +102,7 @@ module _ (C : Chart) (O : Ordered C) (places : ℕ) (lent : List ℕ) (R : Room 
       let y = enter-out j k in
       ⊎-elim
       (λ (f : starts C p j ≡ true).
-        clash (subst (λ (z : Point). beyond C (s .last) z ≡ true) (sym (starts-at j (y .0) f)) after) (subst (λ (z : ℕ). beyond C (s .last) (min z) ≡ false) e (G .active-begun i (x .0))))
+      clash (subst (λ (z : Point). beyond C (s .last) z ≡ true) (sym (starts-at j (y .0) f)) after) (subst (λ (z : ℕ). beyond C (s .last) (min z) ≡ false) e (G .active-begun i (x .0))))
       (λ (f : turns C s p j ≡ true). clash f (subst (λ (z : ℕ). turns C s p z ≡ false) e (x .2)))
       (y .1)
 
@@ -143,8 +143,8 @@ module _ (C : Chart) (O : Ordered C) (places : ℕ) (lent : List ℕ) (R : Room 
       ⊎-elim
       (λ (h : In i (staying C s p)). stay-begun i h)
       (λ (h : In i (entering C s p)).
-        let y = enter-out i h in
-        ⊎-elim (λ (f : starts C p i ≡ true). rw (starts-at i (y .0) f) (O .less-irr p fit)) (λ (f : turns C s p i ≡ true). turn-begun i (y .0) f) (y .1))
+      let y = enter-out i h in
+      ⊎-elim (λ (f : starts C p i ≡ true). rw (starts-at i (y .0) f) (O .less-irr p fit)) (λ (f : turns C s p i ≡ true). turn-begun i (y .0) f) (y .1))
       (both-cases i m)
 
   pub ranged-is : ranged C a p ≡ ranging C s p
@@ -156,5 +156,10 @@ module _ (C : Chart) (O : Ordered C) (places : ℕ) (lent : List ℕ) (R : Room 
     where
       room : length (staying C s p) + length (entering C s p) ≤ most
       room =
-          omega (arith, R .few, upto-length n, length-append (staying C s p) (entering C s p),
-            distinct-fit both (upto n) both-once (λ i m. upto-in n i (both-below i m)))
+          omega (
+            arith,
+            R .few,
+            upto-length n,
+            length-append (staying C s p) (entering C s p),
+            distinct-fit both (upto n) both-once (λ i m. upto-in n i (both-below i m)),
+          )

@@ -28,23 +28,25 @@ module _ (C : Chart) (O : Ordered C) where
       sorted : Pairwise (λ x y. before p x y ≡ true) done
 
     rank-one : (x : ℕ) (done l : List ℕ) → Ranking done (x ∷ l)
-      → Pairwise (λ y z. before p x y ≡ true → before p x z ≡ true) done × Ranking (place (before p) x done) l
-    rank-one x done l k =
-        (pairwise-map _ _ done
+        → Pairwise (λ y z. before p x y ≡ true → before p x z ≡ true) done × Ranking (place (before p) x done) l
+    rank-one x done l k = (
+      pairwise-map _ _ done
           (λ y z m h e f. O .before-trans p fit x y z (k .below x (here refl)) (k .done-below y m) (k .done-below z h) f e)
           (k .sorted),
-          record {
-            done-below = λ y m. one y (place-out (before p) x done m);
-            below = λ y m. k .below y (there m);
-            once = k .once .1;
-            apart = λ z y m h. two z y m (place-out (before p) x done h);
-            sorted = place-sorted (before p) (λ i. i < n) (λ i j h a b c. O .before-trans p fit i j h a b c) (λ i j a b. O .before-total p fit i j a b)
-              x done (k .below x (here refl)) (k .done-below) (λ y m. k .apart x y (here refl) m) (k .sorted)
-          })
+      record {
+        done-below = λ y m. one y (place-out (before p) x done m);
+        below = λ y m. k .below y (there m);
+        once = k .once .1;
+        apart = λ z y m h. two z y m (place-out (before p) x done h);
+        sorted = place-sorted (before p) (λ i. i < n) (λ i j h a b c. O .before-trans p fit i j h a b c) (λ i j a b. O .before-total p fit i j a b)
+            x done (k .below x (here refl)) (k .done-below) (λ y m. k .apart x y (here refl) m) (k .sorted);
+      },
+    )
       where
         one : (y : ℕ) → In y (x ∷ done) → y < n
         one y (here e) = rw e (k .below x (here refl))
         one y (there m) = k .done-below y m
+
         two : (z y : ℕ) → In z l → In y (x ∷ done) → z ≢ y
         two z y m (here e) d = k .once .0 z m (sym (d ∙ e))
         two z y m (there h) d = k .apart z y (there m) h d
@@ -63,24 +65,26 @@ module _ (C : Chart) (O : Ordered C) where
       up : Up C point done
 
     settle-one : (x : ℕ) (done l : List ℕ) → Settling done (x ∷ l)
-      → Pairwise (λ y z. nearer C point x y ≡ true → nearer C point x z ≡ true) done × Settling (place (nearer C point) x done) l
-    settle-one x done l k =
-        (pairwise-map _ _ done (λ y z m h e f. beyond y z m h e f) (k .up),
-          record {
-            done-fit = λ y m. one y (place-out (nearer C point) x done m);
-            fits = λ y m. k .fits y (there m);
-            up = place-up C O point x done (k .fits x (here refl)) (k .done-fit) (k .up)
-          })
+        → Pairwise (λ y z. nearer C point x y ≡ true → nearer C point x z ≡ true) done × Settling (place (nearer C point) x done) l
+    settle-one x done l k = (
+      pairwise-map _ _ done (λ y z m h e f. beyond y z m h e f) (k .up),
+      record {
+        done-fit = λ y m. one y (place-out (nearer C point) x done m);
+        fits = λ y m. k .fits y (there m);
+        up = place-up C O point x done (k .fits x (here refl)) (k .done-fit) (k .up);
+      },
+    )
       where
         one : (y : ℕ) → In y (x ∷ done) → Fit (point y)
         one y (here e) = rw e (k .fits x (here refl))
         one y (there m) = k .done-fit y m
+
         beyond : (y z : ℕ) → In y done → In z done → less (point z) (point y) ≡ false → less (point x) (point y) ≡ true → less (point x) (point z) ≡ true
         beyond y z m h e f =
             ⊎-elim
             (λ (g : less (point x) (point z) ≡ true). g)
             (λ (g : less (point x) (point z) ≡ false).
-              clash f (not-after C O (point y) (point z) (point x) (k .done-fit y m) (k .done-fit z h) (k .fits x (here refl)) e g))
+            clash f (not-after C O (point y) (point z) (point x) (k .done-fit y m) (k .done-fit z h) (k .fits x (here refl)) e g))
             (ask (less (point x) (point z)))
 
     pub settled : (l : List ℕ) → ((y : ℕ) → In y l → Fit (point y)) → insert-all (nearer C point) [] l ≡ sort (nearer C point) l

@@ -76,20 +76,20 @@ module _ (C : Chart) (O : Ordered C) (places : ℕ) (lent : List ℕ) (R : Room 
 
   -- the pieces of ends at p of one sort
   sort-flags : (sort : ℕ → Bool) (i : ℕ) → (e : ℕ) → e < 2 * n → e / 2 ≡ i → sort e ≡ true → O .Fit (endOf C e)
-    → ((f : ℕ) → sort f ≡ true → f / 2 ≡ i → f ≡ e) → any (eqb i) (halves (keep sort (ends-here C a p))) ≡ end-at C p e
+      → ((f : ℕ) → sort f ≡ true → f / 2 ≡ i → f ≡ e) → any (eqb i) (halves (keep sort (ends-here C a p))) ≡ end-at C p e
   unfolding halves
   sort-flags sort i e h half so f only =
       same-test (any (eqb i) (halves (keep sort (ends-here C a p)))) (end-at C p e)
       (λ d.
-        let x = any-out (eqb i) (map (λ e. e / 2) (keep sort (ends-here C a p))) d in
-        let r = Memᴰ·of-map (λ e. e / 2) (keep sort (ends-here C a p)) (x .1) in
-        let k = keep-out sort (ends-here C a p) (r .1) in
-        let y = keep-out (end-at C p) (a .ends) (subst (λ (l : List ℕ). In (r .0) l) ends-here-are (k .0)) in
-        subst (λ (z : ℕ). end-at C p z ≡ true) (only (r .0) (k .1) (r .2 ∙ sym (eqb-true i (x .0) (x .2)))) (y .1))
+      let x = any-out (eqb i) (map (λ e. e / 2) (keep sort (ends-here C a p))) d in
+      let r = Memᴰ·of-map (λ e. e / 2) (keep sort (ends-here C a p)) (x .1) in
+      let k = keep-out sort (ends-here C a p) (r .1) in
+      let y = keep-out (end-at C p) (a .ends) (subst (λ (l : List ℕ). In (r .0) l) ends-here-are (k .0)) in
+      subst (λ (z : ℕ). end-at C p z ≡ true) (only (r .0) (k .1) (r .2 ∙ sym (eqb-true i (x .0) (x .2)))) (y .1))
       (λ d.
-        any-in (eqb i)
-        (Memᴰ·map (λ e. e / 2) (keep-in sort (subst (λ (l : List ℕ). In e l) (sym ends-here-are) (keep-in (end-at C p) (end-left e h f d) d)) so))
-        (eqb-yes i (e / 2) (sym half)))
+      any-in (eqb i)
+      (Memᴰ·map (λ e. e / 2) (keep-in sort (subst (λ (l : List ℕ). In e l) (sym ends-here-are) (keep-in (end-at C p) (end-left e h f d) d)) so))
+      (eqb-yes i (e / 2) (sym half)))
 
   small : (i : ℕ) → i < n → i < most
   small i h = omega (arith, R .few)
@@ -101,8 +101,10 @@ module _ (C : Chart) (O : Ordered C) (places : ℕ) (lent : List ℕ) (R : Room 
     where
       even : (i : ℕ) → are-min (2 * i) ≡ true
       even i = unfold are-min in (let a : (2 * i) % 2 ≡ 0 = omega arith in rw a)
+
       only : (f : ℕ) → are-min f ≡ true → f / 2 ≡ i → f ≡ 2 * i
       only f e d = let k : f % 2 ≡ 0 = eqb-true (f % 2) 0 (unfold are-min in e) in omega arith
+
       at-min : end-at C p (2 * i) ≡ same C (min i) p
       at-min = unfold end-at in ap (λ (z : Point). same C z p) (end-min C i)
 
@@ -114,8 +116,10 @@ module _ (C : Chart) (O : Ordered C) (places : ℕ) (lent : List ℕ) (R : Room 
     where
       odd : (i : ℕ) → not (are-min (2 * i + 1)) ≡ true
       odd i = unfold are-min in (let a : (2 * i + 1) % 2 ≡ 1 = omega arith in rw a)
+
       only : (f : ℕ) → not (are-min f) ≡ true → f / 2 ≡ i → f ≡ 2 * i + 1
       only f e d = let k : ¬ (f % 2 ≡ 0) = eqb-false (f % 2) 0 (not-true (eqb (f % 2) 0) (unfold are-min in e)) in omega (arith, k)
+
       at-max : end-at C p (2 * i + 1) ≡ same C (max i) p
       at-max = unfold end-at in ap (λ (z : Point). same C z p) (end-max C i)
 
@@ -134,7 +138,7 @@ module _ (C : Chart) (O : Ordered C) (places : ℕ) (lent : List ℕ) (R : Room 
   crossing-pieces =
       ap pieces (front-is C O places lent R (a .ledger) (s .marks) (G .holds) p fit (no-crossing-before C O places lent R a s G p taken))
       ∙ pieces-cells (keep gone (s .marks .waiting))
-        (λ q m. omega (arith, G .holds .waiting-once .pieces q ((keep-out gone (s .marks .waiting) m) .0), R .few))
+      (λ q m. omega (arith, G .holds .waiting-once .pieces q ((keep-out gone (s .marks .waiting) m) .0), R .few))
 
   pub turning-any : (i : ℕ) → any (eqb i) (pieces (crossings-here C a p)) ≡ turns C s p i
   unfolding turns

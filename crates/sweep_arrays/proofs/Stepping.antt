@@ -36,11 +36,11 @@ use Rattle.sweep_arrays.proofs.Fronts.{same-yes, same-no, beyond-not}
 use Rattle.sweep_arrays.proofs.Dropping.{drop-holds}
 use Rattle.sweep_arrays.proofs.Passing.{each-holds, report-holds, examine-holds}
 use Rattle.sweep_arrays.proofs.Resorting.{resorted}
+use Rattle.sweep_arrays.proofs.Least.{end-fit}
 use Rattle.sweep_arrays.proofs.Nexts.{p-fit, p-beyond, no-end-before, no-crossing-before}
 use Rattle.sweep_arrays.proofs.Roles.{ends-left-are}
 use Rattle.sweep_arrays.proofs.Taking.{here-is, stay-is, enter-is}
 use Rattle.sweep_arrays.proofs.Begun.{Begun, Ahead, AllAhead, reports-ahead, examines-ahead, report-drop, begun-on, beyond-on}
-
 use Rattle.sweep_arrays.proofs.Ranging.{sort-once, fit, after, begun, stay-out, stay-begun, both, both-once, both-below, both-begun, ranged-is}
 
 module _ (C : Chart) (O : Ordered C) (places : ℕ) (lent : List ℕ) (R : Room C places lent) (a : Sheet C) (s : State C) (G : Agrees C O places lent a s)
@@ -52,7 +52,7 @@ module _ (C : Chart) (O : Ordered C) (places : ℕ) (lent : List ℕ) (R : Room 
 
   -- adjacent members are two pieces that have begun
   two-of : (l : List ℕ) → Pairwise (λ i j. i ≢ j) l → ((i : ℕ) → In i l → (i < n) × Begun C p i) → (q : Pair) → In q (adjacent l)
-    → Pieces C q × (Begun C p (q .0) × Begun C p (q .1))
+      → Pieces C q × (Begun C p (q .0) × Begun C p (q .1))
   two-of l d h q m =
       let r = adjacent-out l m d in
       let x = h (r .0) (r .2) in
@@ -60,13 +60,13 @@ module _ (C : Chart) (O : Ordered C) (places : ℕ) (lent : List ℕ) (R : Room 
       let u = lesser-up (r .0) (r .1) (r .4) in
       ⊎-elim
       (λ (e : lesser-first (r .0) (r .1) ≡ (r .0, r .1)).
-        let f : q ≡ (r .0, r .1) = r .5 ∙ e in
-        subst (λ (z : Pair). Pieces C z × (Begun C p (z .0) × Begun C p (z .1))) (sym f)
-        ((subst (λ (z : Pair). z .0 < z .1) e u, y .0), (x .1, y .1)))
+      let f : q ≡ (r .0, r .1) = r .5 ∙ e in
+      subst (λ (z : Pair). Pieces C z × (Begun C p (z .0) × Begun C p (z .1))) (sym f)
+      ((subst (λ (z : Pair). z .0 < z .1) e u, y .0), (x .1, y .1)))
       (λ (e : lesser-first (r .0) (r .1) ≡ (r .1, r .0)).
-        let f : q ≡ (r .1, r .0) = r .5 ∙ e in
-        subst (λ (z : Pair). Pieces C z × (Begun C p (z .0) × Begun C p (z .1))) (sym f)
-        ((subst (λ (z : Pair). z .0 < z .1) e u, x .0), (y .1, x .1)))
+      let f : q ≡ (r .1, r .0) = r .5 ∙ e in
+      subst (λ (z : Pair). Pieces C z × (Begun C p (z .0) × Begun C p (z .1))) (sym f)
+      ((subst (λ (z : Pair). z .0 < z .1) e u, x .0), (y .1, x .1)))
       (lesser-two (r .0) (r .1))
 
   stay-two : (q : Pair) → In q (adjacent (staying C s p)) → Pieces C q × (Begun C p (q .0) × Begun C p (q .1))
@@ -118,7 +118,7 @@ module _ (C : Chart) (O : Ordered C) (places : ℕ) (lent : List ℕ) (R : Room 
       record {
         beyond-p = same-no C O p at-p (at C q) (no-crossing-before C O places lent R a s G p taken q (k .0)) (not-true (same C (at C q) p) (k .1));
         first-begun = begun C O places lent R a s G p taken (q .0) (omega arith) (b .0);
-        second-begun = begun C O places lent R a s G p taken (q .1) (v .1) (b .1)
+        second-begun = begun C O places lent R a s G p taken (q .1) (v .1) (b .1);
       }
 
   examined-ahead : AllAhead C p (examining C s p)
@@ -129,5 +129,36 @@ module _ (C : Chart) (O : Ordered C) (places : ℕ) (lent : List ℕ) (R : Room 
       (examines-ahead C p (adjacent (staying C s p)) _ (reports-ahead C p (pairs (taking C s p)) dropped-marks dropped-ahead) (λ q m. (stay-two q m) .1))
       (λ q m. (ranged-two q m) .1))
 
-  end-fit-p : (e : ℕ) → In e (a .ends) → O .Fit (endOf C e) × (less (endOf C e) p ≡ false)
-  end-fit-p = no-end-before C O places lent R a s G p taken
+  ends-kept : (e : ℕ) → e < 2 * n → less p (endOf C e) ≡ true → In e (rest (end-at C p) (a .ends))
+  unfolding end-at
+  ends-kept e h d =
+      rw (ends-left-are C O places lent R a s G p taken)
+      (keep-in (λ e. not (end-at C p e))
+      (G .ends-in e h (beyond-on C O (s .last) (G .last-fit) p at-p (after C O places lent R a s G p taken) (endOf C e) (end-fit C O places lent R a s G e h) d))
+      (ap not (beyond-not C O p at-p (endOf C e) d)))
+
+  ends-out : (e : ℕ) → In e (rest (end-at C p) (a .ends)) → (e < 2 * n) × (less p (endOf C e) ≡ true)
+  unfolding end-at
+  ends-out e m =
+      let k = keep-out (λ e. not (end-at C p e)) (a .ends) (subst (λ (l : List ℕ). In e l) (ends-left-are C O places lent R a s G p taken) m) in
+      let f = no-end-before C O places lent R a s G p taken e (k .0) in
+      ((G .ends-out e (k .0)) .0, same-no C O p at-p (endOf C e) (f .1) (not-true (same C (endOf C e) p) (k .1)))
+
+  pub step-agrees : Agrees C O places lent (step C a p) (stepped C s p)
+  unfolding step stepped beyond
+  step-agrees =
+      record {
+        active-is = ranged-is C O places lent R a s G p taken;
+        active-below = λ i m. (ranged-out i m) .0;
+        active-once = ranged-once;
+        active-begun = λ i m. (ranged-out i m) .1;
+        ends-in = ends-kept;
+        ends-out = ends-out;
+        ends-up = rw (ends-left-are C O places lent R a s G p taken) (pairwise-keep _ _ (a .ends) (G .ends-up));
+        holds = examined-holds;
+        waiting-beyond = λ q m. (examined-ahead q m) .beyond-p;
+        waiting-begun = λ q m. ((examined-ahead q m) .first-begun, (examined-ahead q m) .second-begun);
+        last-is = refl;
+        last-fit = λ q e. let d : p ≡ q = cc in subst (O .Fit) d at-p;
+        steps-are = ap suc (G .steps-are);
+      }

@@ -67,7 +67,7 @@ module _ (C : Chart) (O : Ordered C) (places : ℕ) (lent : List ℕ) (R : Room 
       ⊎-elim
       (λ (e : are-min (r .0) ≡ true). inl (any-eq i (subst (λ (z : ℕ). In z (halves (keep are-min here-ends))) (r .2) (Memᴰ·map (λ e. e / 2) (keep-in are-min (r .1) e)))))
       (λ (e : are-min (r .0) ≡ false).
-        inr (any-eq i (subst (λ (z : ℕ). In z (halves (keep (λ e. not (are-min e)) here-ends))) (r .2) (Memᴰ·map (λ e. e / 2) (keep-in (λ e. not (are-min e)) (r .1) (ap not e))))))
+      inr (any-eq i (subst (λ (z : ℕ). In z (halves (keep (λ e. not (are-min e)) here-ends))) (r .2) (Memᴰ·map (λ e. e / 2) (keep-in (λ e. not (are-min e)) (r .1) (ap not e))))))
       (ask (are-min (r .0)))
 
   abbrev parts : List ℕ
@@ -117,8 +117,8 @@ module _ (C : Chart) (O : Ordered C) (places : ℕ) (lent : List ℕ) (R : Room 
   part-cases i e =
       ⊎-elim
       (λ (f : (starts C p i || finishes C p i || turns C s p i) ≡ true).
-        ⊎-elim (λ (g : (starts C p i || finishes C p i) ≡ true). inl (or-one (starts C p i) (finishes C p i) g)) (λ (g : turns C s p i ≡ true). inr (inl g))
-        (or-one (starts C p i || finishes C p i) (turns C s p i) f))
+      ⊎-elim (λ (g : (starts C p i || finishes C p i) ≡ true). inl (or-one (starts C p i) (finishes C p i) g)) (λ (g : turns C s p i ≡ true). inr (inl g))
+      (or-one (starts C p i || finishes C p i) (turns C s p i) f))
       (λ (f : (any (eqb i) (s .active) && contains i p) ≡ true). inr (inr f))
       (or-one (starts C p i || finishes C p i || turns C s p i) (any (eqb i) (s .active) && contains i p) e)
 
@@ -162,9 +162,9 @@ module _ (C : Chart) (O : Ordered C) (places : ℕ) (lent : List ℕ) (R : Room 
   stay-is =
       ap (keep (λ i. not (flagged (finishing C a p) i || flagged (turning C a p) i))) (G .active-is)
       ∙ keep-same _ _ (s .active) (λ i m.
-        ap₂ (λ (x : Bool) (y : Bool). not (x || y))
-        (finishing-is C O places lent R a s G p taken i (G .active-below i m))
-        (turning-is C O places lent R a s G p taken i (G .active-below i m)))
+      ap₂ (λ (x : Bool) (y : Bool). not (x || y))
+      (finishing-is C O places lent R a s G p taken i (G .active-below i m))
+      (turning-is C O places lent R a s G p taken i (G .active-below i m)))
 
   abbrev enters : ℕ → Bool
   enters i = (starts C p i || turns C s p i) && not (finishes C p i)
@@ -185,6 +185,7 @@ module _ (C : Chart) (O : Ordered C) (places : ℕ) (lent : List ℕ) (R : Room 
       flags : (i : ℕ) → i < n → ((flagged (starting C a p) i || flagged (turning C a p) i) && not (flagged (finishing C a p) i)) ≡ enters i
       flags i h =
           rw (starting-is C O places lent R a s G p taken i h, turning-is C O places lent R a s G p taken i h, finishing-is C O places lent R a s G p taken i h)
+
       both : (i : ℕ) → (takes-part C s p i && enters i) ≡ enters i
       both i =
           ⊎-elim

@@ -79,7 +79,7 @@ module _ (C : Chart) where
     pub holds : Holds places lent (a .ledger) (s .marks)
     pub waiting-beyond : (q : Pair) → In q (s .marks .waiting) → beyond C (s .last) (at C q) ≡ true
     pub waiting-begun : (q : Pair) → In q (s .marks .waiting)
-      → (beyond C (s .last) (min (q .0)) ≡ false) × (beyond C (s .last) (min (q .1)) ≡ false)
+        → (beyond C (s .last) (min (q .0)) ≡ false) × (beyond C (s .last) (min (q .1)) ≡ false)
     pub last-is : a .last ≡ s .last
     pub last-fit : (p : Point) → s .last ≡ some p → O .Fit p
     pub steps-are : a .steps ≡ s .steps

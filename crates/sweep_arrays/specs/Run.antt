@@ -11,6 +11,10 @@ use Rattle.sweep_arrays.specs.Numbers.{pairOf, endOf, end-before}
 use Rattle.sweep_arrays.specs.Insertion.{insert-all}
 use Rattle.sweep_arrays.specs.Event.{Sheet, step}
 
+-- every pair free
+unfoldable pub blank : List ℕ
+blank = replicate (most * most) 0
+
 module _ (C : Chart) where
   open Chart C using (Point, less, n)
 
@@ -38,7 +42,7 @@ module _ (C : Chart) where
       record {
         ends = insert-all (end-before C) [] (upto (2 * n));
         active = [];
-        ledger = record { marks = replicate (most * most) 0; waiting = []; spare = spare; bytes = bytes; end = 0 };
+        ledger = record { marks = blank; waiting = []; spare = spare; bytes = bytes; end = 0 };
         last = none;
         steps = 0;
       }
