@@ -9,29 +9,17 @@ use lib.Signed.{_≤ℤ_, _<ℤ_}
 use Rattle.integers.proofs.Identity.{by-ring, terms}
 use Rattle.integers.proofs.Signs.{<-diff, diff-<, p+p, p*p}
 use Rattle.integers.proofs.Order.{Tri, less, same, more, tri, <-asym, <→≢}
-use Rattle.integers.proofs.Comparison.{three-less, three-equal, three-greater}
 use Rattle.fractions.specs.declared.Order.{Order}
 use Rattle.fractions.specs.declared.Order.the-variants.{Less, Equal, Greater}
 use Rattle.fractions.specs.declared.Point.{Point}
 use Rattle.fractions.specs.Order.{order, andThen}
 use Rattle.fractions.specs.Fraction.{ratioOrder}
 use Rattle.fractions.specs.Point.{pointOrder}
+use Rattle.fractions.proofs.Orders.{order-less, order-equal, order-greater}
 
 pub data Ahead (u v : ℤ) : Type 0 where
   along-x : pos 0 <ℤ u → Ahead u v
   along-y : u ≡ pos 0 → pos 0 <ℤ v → Ahead u v
-
-pub order-less : {a b : ℤ} → a <ℤ b → order a b ≡ Less
-unfolding order
-order-less h = three-less Less Equal Greater h
-
-pub order-equal : {a b : ℤ} → a ≡ b → order a b ≡ Equal
-unfolding order
-order-equal e = three-equal Less Equal Greater e
-
-pub order-greater : {a b : ℤ} → b <ℤ a → order a b ≡ Greater
-unfolding order
-order-greater h = three-greater Less Equal Greater h
 
 difference : {a b : ℤ} → a ≡ b → b -ℤ a ≡ pos 0
 difference {a} {b} e = subst (λ (z : ℤ). b -ℤ z ≡ pos 0) (sym e) (by-ring (b ∷ []) (search terms depth 60 fits 20000) tt)

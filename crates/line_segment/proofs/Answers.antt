@@ -5,31 +5,33 @@ use Rattle.orientation.specs.declared.Orientation.{Orientation}
 use Rattle.orientation.specs.Turn.{isStraight}
 use Rattle.fractions.specs.declared.Order.{Order}
 use Rattle.fractions.specs.declared.Order.the-variants.{Less, Equal, Greater}
+use Rattle.fractions.specs.declared.Point.{Point}
+use Rattle.fractions.specs.Point.{pointOrder}
 use Rattle.line_segment.specs.declared.EndPoint.{EndPoint}
 use Rattle.line_segment.specs.declared.LineSegment.{LineSegment}
 use Rattle.line_segment.specs.declared.Meeting.{Meeting}
 use Rattle.line_segment.specs.declared.Meeting.the-variants.{Nothing, Crossing, Overlap}
-use Rattle.line_segment.specs.Piece.{pointOf, endOrder, joinOf}
+use Rattle.line_segment.specs.Piece.{pointOf, joinOf}
 use Rattle.line_segment.specs.Geometry.{admits}
 use Rattle.line_segment.specs.Segment.{within, innerBetween, stretchBy, stretchOf, touchOf, turnTo, opposed, astrideOf, intersectOf}
 
-and-false : (x : Bool) {y : Bool} → y ≡ false → x && y ≡ false
+pub and-false : (x : Bool) {y : Bool} → y ≡ false → x && y ≡ false
 and-false true e = e
 and-false false e = refl
 
-and-true : {x y : Bool} → x ≡ true → y ≡ true → x && y ≡ true
+pub and-true : {x y : Bool} → x ≡ true → y ≡ true → x && y ≡ true
 and-true h k = rw h k
 
-false-and : {x : Bool} (y : Bool) → x ≡ false → x && y ≡ false
+pub false-and : {x : Bool} (y : Bool) → x ≡ false → x && y ≡ false
 false-and y h = rw h
 
-module _ (p a b : EndPoint) {s : LineSegment} {o : Order} (j : s ≡ joinOf a b) (first : o ≡ endOrder (s .min) p) where
-  pub between-then : admits o (s .min .included) ≡ true → {o′ : Order} → o′ ≡ endOrder p (s .max) → {r : Bool} → r ≡ admits o′ (s .max .included) → r ≡ innerBetween (pointOf p) a b
-  unfolding endOrder within innerBetween
+module _ (p : Point) (a b : EndPoint) {s : LineSegment} {o : Order} (j : s ≡ joinOf a b) (first : o ≡ pointOrder (pointOf (s .min)) p) where
+  pub between-then : admits o (s .min .included) ≡ true → {o′ : Order} → o′ ≡ pointOrder p (pointOf (s .max)) → {r : Bool} → r ≡ admits o′ (s .max .included) → r ≡ innerBetween p a b
+  unfolding within innerBetween
   between-then e second f = f ∙ rw (← j, ← first, e, ← second)
 
-  pub between-not : {r : Bool} → r ≡ admits o (s .min .included) → r ≡ false → r ≡ innerBetween (pointOf p) a b
-  unfolding endOrder within innerBetween
+  pub between-not : {r : Bool} → r ≡ admits o (s .min .included) → r ≡ false → r ≡ innerBetween p a b
+  unfolding within innerBetween
   between-not e f = f ∙ rw (← j, ← first, sym e ∙ f)
 
 module _ (s : LineSegment) where

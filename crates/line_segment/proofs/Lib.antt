@@ -3,3 +3,4 @@ pub mod Ahead
 pub mod Ends
 pub mod Answers
 pub mod CramersRule
+pub mod Holding

@@ -1,13 +1,18 @@
 // The pieces of a chart and where two of them meet, after the Rust's line_segment.rs: its names, and its cases in
 // its order. Coordinates are i16, so every function takes every value of its types.
 ghost use mathlib.Core.Path.{_≡_};
+ghost use Rattle.fractions.specs.Order.{order, andThen};
 ghost use Rattle.line_segment.specs.Piece.{pointOf, endOrder, joinOf, pieceOf};
 ghost use lib.IntN.{natAbs, _-ℤ_, _*ℤ_};
 ghost use Rattle.integers.specs.Size.{Small};
 ghost use Rattle.line_segment.specs.Geometry.{admits, run as runOf, rise as riseOf};
 ghost use Rattle.line_segment.specs.Segment.{exclusiveOf, leftmostOf, rightmostOf, innerBetween, stretchOf, touchOf, turnTo, opposed, astrideOf, intersectOf, moment as momentOf, over as overOf, cramerOf, crossingOf};
+
+mod holds;
+
 use fractions::Order;
 use fractions::Point;
+pub use holds::contains;
 use orientation::Orientation;
 
 // An end of a piece: its point, and whether the piece has that point.
@@ -30,14 +35,10 @@ pub enum Meeting {
     Overlap(LineSegment),
 }
 
-// Which of two ends comes first, by x, then y.
-pub fn end_order(a: EndPoint, b: EndPoint) -> Order
-    ensures { λ r. ⌜ r ≡ endOrder a b ⌝ }
+// Which of two pairs of numbers comes first.
+fn pair_order(ax: i64, ay: i64, bx: i64, by: i64) -> Order
+    ensures { λ r. ⌜ r ≡ andThen (order ax bx) (order ay «by») ⌝ }
 {
-    let ax = a.x;
-    let bx = b.x;
-    let ay = a.y;
-    let by = b.y;
     if ax < bx {
         Order::Less
     } else if bx < ax {
@@ -49,6 +50,13 @@ pub fn end_order(a: EndPoint, b: EndPoint) -> Order
     } else {
         Order::Equal
     }
+}
+
+// Which of two ends comes first, by x, then y.
+pub fn end_order(a: EndPoint, b: EndPoint) -> Order
+    ensures { λ r. ⌜ r ≡ endOrder a b ⌝ }
+{
+    pair_order(a.x as i64, a.y as i64, b.x as i64, b.y as i64)
 }
 
 // The piece between two ends, each with its mark.

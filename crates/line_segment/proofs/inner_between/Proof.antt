@@ -1,6 +1,7 @@
 -- `line_segment::inner_between` meets its contract: the second end is asked only where the first allows.
 use borrow.Author.Needs.{needs}
 use mathlib.Core.Path.{_∙_, sym}
+use Rattle.line_segment.specs.Piece.{endOrder}
 use Rattle.line_segment.proofs.Answers.{between-then, between-not}
 use Rattle.line_segment.proofs.inner_between.Statement.{statement}
 use Rattle.line_segment.proofs.inner_between.Tie as tie
@@ -21,12 +22,14 @@ allows-requires-2 : tie.Need-allows-requires-2
 allows-requires-2 c κs = search needs
 
 returns : tie.Need-returns
+unfolding endOrder
 returns c =
     between-then _ _ _ (c .before .before .before .before .before .before .before .join .ensures) (c .before .before .before .before .end-order .ensures)
     (sym (c .before .before .before .allows .ensures) ∙ c .before .before .if1 .taken)
     (c .before .end-order2 .ensures) (c .allows2 .ensures)
 
 returns-2 : tie.Need-returns-2
+unfolding endOrder
 returns-2 c = between-not _ _ _ (c .before .before .before .before .before .join .ensures) (c .before .before .end-order .ensures) (c .before .allows .ensures) (c .if1 .left)
 
 pub inner-between-spec : {M : Type 1} → statement M
