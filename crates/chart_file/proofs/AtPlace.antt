@@ -59,7 +59,7 @@ bytes-take zero (x ∷ t) b = tt
 bytes-take (suc n) [] b = tt
 bytes-take (suc n) (x ∷ t) b = (b .0, bytes-take n t (b .1))
 
-front-canonical : (t : List ℕ) → Bytes t → marked t < length t → (0 < marked t → getD t (marked t) 0 ≡ 0 → ⊥) → Canonical (take (suc (marked t)) t)
+pub front-canonical : (t : List ℕ) → Bytes t → marked t < length t → (0 < marked t → getD t (marked t) 0 ≡ 0 → ⊥) → Canonical (take (suc (marked t)) t)
 front-canonical t b l z =
     let m = marked t in
     let e : marked (take (suc m) t) ≡ m = marked-take t l in

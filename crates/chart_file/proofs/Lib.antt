@@ -1,8 +1,17 @@
 pub mod Spelling
 pub mod AtPlace
 pub mod Passed
+pub mod Marks
 pub mod Turned
 pub mod Numbers
+pub mod OneNumber
 pub mod Steps
+pub mod Begun
+pub mod Forth
+pub mod Back
+pub mod Once
+pub mod Files
+pub mod Longest
+pub mod Examples
 pub mod Kept
 pub mod Whole

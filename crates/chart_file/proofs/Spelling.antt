@@ -9,6 +9,7 @@ use borrow.Author.Tests.{lt-ltb, le-ltb, le-leb, lt-leb}
 use lib.Dec.{lit<}
 use lib.ListN.{length, getD}
 use Rattle.chart_file.specs.Groups.{value, marked, spelled, Bytes, Canonical}
+use Rattle.chart_file.specs.Demand.{Spells, SpellsAlone, SpellsFewest}
 
 -- The last group, and a group before it.
 pub marked-last : (b : ℕ) (bs : List ℕ) → b < 128 → marked (b ∷ bs) ≡ 0
@@ -48,7 +49,7 @@ value-spelled (suc k) v h = elim (decLt v 128) [
 ]
 
 -- are bytes,
-bytes-spelled : (k v : ℕ) → Bytes (spelled k v)
+pub bytes-spelled : (k v : ℕ) → Bytes (spelled k v)
 unfolding spelled
 bytes-spelled zero v = tt
 bytes-spelled (suc k) v = elim (decLt v 128) [
@@ -166,3 +167,14 @@ fewest (suc k) (b ∷ gs) p = elim (decLt (value (b ∷ gs)) 128) [
     filled : (gs : List ℕ) → 0 < value gs → 0 < length gs
     filled [] h = h
     filled (x ∷ gs) h = omega arith
+
+-- ---- the promises
+
+pub spells : Spells
+spells k v p h = (canonical-spelled k v p h, value-spelled k v h, length-spelled k v)
+
+pub spells-alone : SpellsAlone
+spells-alone k gs c l = sym (spelled-value k gs c l)
+
+pub spells-fewest : SpellsFewest
+spells-fewest = fewest

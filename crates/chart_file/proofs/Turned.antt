@@ -1,14 +1,15 @@
 -- A coordinate and the number that it is stored as determine each other, and the range of one is a range of the other.
 use mathlib.Core.Path.{_≡_, refl, sym, ap, _∙_}
 use mathlib.Core.Bool.{Bool, true, false, _||_, or-false}
-use Prim.Native.Nat.{ℕ, _+_, _*_, _/_, _%_, _≤_, _<_}
+use Prim.Native.Nat.{ℕ, suc, _+_, _*_, _/_, _%_, _≤_, _<_}
 use native.Mathlib.Decide.{decLt}
 use native.Mathlib.Omega.{arith}
 use borrow.Author.Tests.{eqb-true, eqb-false, eq-eqb, ne-eqb, lt-ltb, le-ltb}
-use lib.Dec.{eqb, ltb}
-use lib.IntN.{ℤ, pos, negsuc, negℤ}
+use lib.Dec.{eqb, ltb, ltb→lt}
+use lib.IntN.{ℤ, pos, negsuc, negℤ, negℤ-negℤ, -ℤ-one}
 use Rattle.charts.specs.Fault.{range, outside}
 use Rattle.chart_file.specs.Coordinate.{stored, signedOf}
+use Rattle.chart_file.specs.Demand.{TurnedBack, StoredAsSaid}
 
 pub signed-even : (u : ℕ) → u % 2 ≡ 0 → signedOf u ≡ pos (u / 2)
 unfolding signedOf
@@ -48,3 +49,13 @@ unfolding outside
 outside-stored u = by-parity u
     (λ e. rw (signed-even u e) (same-test 32767 (u / 2) 65534 u (λ h. omega arith) (λ h. omega arith)))
     (λ e. rw (signed-odd u e) (or-false (ltb 32766 (u / 2)) ∙ same-test 32766 (u / 2) 65534 u (λ h. omega arith) (λ h. omega arith)))
+
+pub turned-back : TurnedBack
+turned-back = (signed-stored, stored-signed)
+
+pub stored-as-said : StoredAsSaid
+unfolding stored
+stored-as-said (pos n) = (λ h. refl, λ h. absurd (omega (arith, ltb→lt n 0 (h .lt))))
+stored-as-said (negsuc n) =
+    let e : 2 * suc n ≡ suc (2 * n + 1) = omega arith in
+    (λ h. absurd (h .le), λ h. rw (negℤ-negℤ, e) (sym (-ℤ-one (pos (suc (2 * n + 1))))))

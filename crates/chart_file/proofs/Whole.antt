@@ -11,6 +11,7 @@ use Rattle.charts.specs.Chart.{most}
 use Rattle.charts.specs.declared.Answer.{Answer}
 use Rattle.charts.specs.Answer.{doneWith, refusedWith}
 use Rattle.chart_file.specs.declared.Stop.{Stop}
+use Rattle.chart_file.specs.Demand.{LentExactly}
 use Rattle.chart_file.specs.Reading.{Reading, due, stopped, pieces, ended, readingOf, lentReading, answerOf, contentOf, Reads, Left}
 
 -- ---- before the pieces
@@ -67,3 +68,7 @@ module _ (s : List ℕ) (list : List ℤ) (r : Answer) where
   pub answers-chart : (after xs : List ℤ) (n at : ℕ) → lentReading (length list) s ≡ due xs at → length xs ≡ 5 * n → r ≡ doneWith n → after ≡ xs ++ drop (5 * n) list → Reads s list r after
   unfolding answerOf contentOf
   answers-chart after xs n at e l a k = record { answer = rw (e, l) (a ∙ ap doneWith (omega arith)); content = rw (e, l) k }
+
+pub lent-exactly : LentExactly
+unfolding lentReading
+lent-exactly lent s = (too-little s lent, λ h. rw (le-ltb _ _ h))

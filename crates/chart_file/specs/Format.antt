@@ -22,3 +22,7 @@ bytesFrom i (v ∷ vs) = bytesOf (i % 5) v ++ bytesFrom (suc i) vs
 
 unfoldable pub fileOf : List ℤ → List ℕ
 fileOf list = (length list / 5) ∷ bytesFrom 0 list
+
+-- "The longest file has 833 bytes."
+abbrev pub longest : ℕ
+longest = 833

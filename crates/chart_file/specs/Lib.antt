@@ -4,3 +4,5 @@ pub mod Groups
 pub mod Coordinate
 pub mod Format
 pub mod Reading
+pub mod Demand
+pub mod Examples

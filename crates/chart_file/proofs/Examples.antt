@@ -1,0 +1,32 @@
+-- The table of examples, by computation.
+use mathlib.Core.Path.{refl}
+use Rattle.charts.specs.Fault.{outside, offRange, eqZ, sameEnds, faultOf}
+use Rattle.charts.specs.Chart.{numberAt, faultAt}
+use Rattle.chart_file.specs.Groups.{value, marked, groupsAt, spelled}
+use Rattle.chart_file.specs.Coordinate.{stored, signedOf}
+use Rattle.chart_file.specs.Format.{bytesOf}
+use Rattle.chart_file.specs.Reading.{kindAt, turned, coordinateAt, standsAt, joined, more, numbers, withLength, piece, pieces, ended, readingOf}
+use Rattle.chart_file.specs.Examples.{Examples}
+
+pub examples : Examples
+unfolding outside offRange eqZ sameEnds faultOf numberAt faultAt value marked groupsAt spelled stored signedOf bytesOf kindAt turned coordinateAt standsAt joined more numbers withLength piece pieces ended readingOf
+examples = record {
+  too-far = refl;
+  padded = refl;
+  unended = refl;
+  empty = refl;
+  no-pieces = refl;
+  most = refl;
+  least = refl;
+  sixty-four = refl;
+  minus-one = refl;
+  most-read = refl;
+  least-read = refl;
+  sixty-four-read = refl;
+  minus-one-read = refl;
+  crossing = refl;
+  third-marked = refl;
+  no-length = refl;
+  count-64 = refl;
+  count-65 = refl;
+}
