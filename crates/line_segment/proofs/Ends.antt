@@ -34,6 +34,10 @@ module _ {a b c d : ℤ} (u : a ≤ℤ b) (v : b ≤ℤ a) where
   pub neither : c ≤ℤ d → d ≤ℤ c → Equal ≡ pairOrder a c b d
   neither h k = rw (order-equal (≤-antisym u v), order-equal (≤-antisym h k))
 
-pub end-order-is : (e f : EndPoint) {a c b d : ℤ} → a ≡ e .x → c ≡ e .y → b ≡ f .x → d ≡ f .y → pairOrder a c b d ≡ endOrder e f
+pub end-order-is : (e f : EndPoint) → endOrder e f ≡ pairOrder (e .x) (e .y) (f .x) (f .y)
 unfolding endOrder pointOf pointOrder ratioOrder
-end-order-is e f h i j k = rw (h, i, j, k) (simp *ℤ-idr)
+end-order-is e f = simp *ℤ-idr
+
+-- the same from numbers that are the coordinates
+pub read-order : (e f : EndPoint) {a c b d : ℤ} → a ≡ e .x → c ≡ e .y → b ≡ f .x → d ≡ f .y → pairOrder a c b d ≡ endOrder e f
+read-order e f h i j k = rw (h, i, j, k) (sym (end-order-is e f))

@@ -3,7 +3,7 @@ use borrow.Author.Needs.{needs}
 use mathlib.Core.Path.{_∙_}
 use Rattle.integers.proofs.Machine.{m-fits, m-eq}
 use Rattle.integers.proofs.Tests.{ranged}
-use Rattle.line_segment.proofs.Ends.{end-order-is}
+use Rattle.line_segment.proofs.Ends.{read-order}
 use Rattle.line_segment.proofs.end_order.Statement.{statement}
 use Rattle.line_segment.proofs.end_order.Tie as tie
 
@@ -25,7 +25,7 @@ pair-order-requires c κs = search needs
 returns : tie.Need-returns
 returns c =
     c .pair-order .ensures
-    ∙ end-order-is _ _
+    ∙ read-order _ _
     (m-eq (search ranged depth 60 fits 20000) tt) (m-eq (search ranged depth 60 fits 20000) tt)
     (m-eq (search ranged depth 60 fits 20000) tt) (m-eq (search ranged depth 60 fits 20000) tt)
 
