@@ -136,11 +136,15 @@ module _ (T : Asked) (n : ℕ) (piece : ℕ → LineSegment) (ok : AllProper n p
 
   min-bounded : (i : ℕ) → i < n → Bounded (pointOf (piece i .min))
   unfolding pointOf
-  min-bounded i h = lowest-terms .whole-bounded (piece i .min .x) (piece i .min .y) (ok i h .x1) (ok i h .y1)
+  min-bounded i h =
+      let c = ok i h .charted in
+      lowest-terms .whole-bounded (piece i .min .x) (piece i .min .y) (omega (arith, c .min-x .small)) (omega (arith, c .min-y .small))
 
   max-bounded : (i : ℕ) → i < n → Bounded (pointOf (piece i .max))
   unfolding pointOf
-  max-bounded i h = lowest-terms .whole-bounded (piece i .max .x) (piece i .max .y) (ok i h .x2) (ok i h .y2)
+  max-bounded i h =
+      let c = ok i h .charted in
+      lowest-terms .whole-bounded (piece i .max .x) (piece i .max .y) (omega (arith, c .max-x .small)) (omega (arith, c .max-y .small))
 
   pub reduced : (p : Point) → Occurs C p → Lowest p × Bounded p
   reduced p o = go (occurs-out C o)
@@ -150,7 +154,7 @@ module _ (T : Asked) (n : ℕ) (piece : ℕ → LineSegment) (ok : AllProper n p
       go (inl (i, h, inr e)) = rw e (end-lowest (piece i .max), max-bounded i h)
       go (inr (q, v, k, e)) =
           let m = (T .cramers (piece (q .0)) (piece (q .1)) (len (q .0) (omega arith)) (len (q .1) (v .1)) (kind-crosses _ k)) .1 in
-          rw e (m .lowest, m .bounded)
+          rw e (m .lowest, T .stays-bounded (piece (q .0)) (piece (q .1)) (ok (q .0) (omega arith) .charted) (ok (q .1) (v .1) .charted))
 
   positive : (p : Point) → Occurs C p → 0 < p .d
   positive p o = (reduced p o) .0 .positive

@@ -1,14 +1,14 @@
 -- What is promised of the sweep on pieces with integer ends.
 use mathlib.Core.Path.{_≡_}
 use mathlib.Core.Bool.{true, false}
-use Prim.Native.Nat.{ℕ, _<_, _≤_, _^_}
-use lib.IntN.{natAbs}
+use Prim.Native.Nat.{ℕ, _<_}
 use Rattle.fractions.specs.Point.{pointOrder}
 use Rattle.fractions.specs.declared.Order.the-variants.{Greater}
 use Rattle.fractions.specs.declared.Point.{Point}
 use Rattle.line_segment.specs.declared.LineSegment.{LineSegment}
 use Rattle.line_segment.specs.Piece.{HasLength, closed}
 use Rattle.line_segment.specs.Geometry.{Common}
+use Rattle.line_segment.specs.Demand.{OnChart}
 use Rattle.sweep.specs.Lists.{Pair}
 use Rattle.sweep.specs.Chart.{meets, kind}
 use Rattle.sweep.specs.Sought.{first}
@@ -16,13 +16,10 @@ use Rattle.sweep.specs.Demand.{Pieces, Promises}
 use Rattle.sweep.specs.Ported.{isUpright, ported}
 use Rattle.sweep_geometry.specs.Full.{full}
 
--- a piece of some length whose coordinates fit 16 bits
+-- a piece of some length, with coordinates of a chart
 pub record Proper (s : LineSegment) : Type 0 where
   pub length : HasLength s
-  pub x1 : natAbs (s .min .x) ≤ 2 ^ 15
-  pub y1 : natAbs (s .min .y) ≤ 2 ^ 15
-  pub x2 : natAbs (s .max .x) ≤ 2 ^ 15
-  pub y2 : natAbs (s .max .y) ≤ 2 ^ 15
+  pub charted : OnChart s
 
 module _ (n : ℕ) (piece : ℕ → LineSegment) where
   abbrev pub AllProper : Type 0
