@@ -2,6 +2,7 @@
 #ifndef MIRTALUGHE_H
 #define MIRTALUGHE_H
 
+#include <stdbool.h>
 #include <stddef.h>
 #include <stdint.h>
 
@@ -13,6 +14,20 @@ typedef struct {
     size_t count;
 } mirtalughe_answer;
 
+typedef struct {
+    int16_t x, y;
+    bool included;
+} mirtalughe_end;
+
+/* How two pieces meet. `meets` is 0 for nothing, 1 for a crossing, 2 for an overlap: then `min` and
+   `max` are the ends of the common stretch. Else they are zero. */
+typedef struct {
+    uint8_t number;
+    size_t place;
+    uint8_t meets;
+    mirtalughe_end min, max;
+} mirtalughe_met;
+
 /* Which way the three points turn: 1 counter-clockwise, -1 clockwise, 0 not at all. */
 int8_t mirtalughe_orient(int16_t x1, int16_t y1, int16_t x2, int16_t y2, int16_t x3, int16_t y3);
 
@@ -23,5 +38,8 @@ int8_t mirtalughe_compare_points(int64_t x1, int64_t y1, uint64_t d1, int64_t x2
 /* Reads a chart file into a lent list, five numbers a piece: kind, x1, y1, x2, y2. `lent` is to be at
    least 320. Numbers past the last piece keep their values. */
 mirtalughe_answer mirtalughe_read(const uint8_t *file, size_t size, int32_t *list, size_t lent);
+
+/* How the two pieces of ten numbers meet, the first one asking. */
+mirtalughe_met mirtalughe_meeting(const int32_t *list, size_t length);
 
 #endif

@@ -2,12 +2,35 @@
 ghost use mathlib.Core.Path.{_≡_};
 ghost use Rattle.orientation.specs.Turn.{det, turnOf};
 ghost use Rattle.fractions.specs.Point.{pointOrder};
+ghost use Rattle.charts.specs.Pair.{meetingOf};
 ghost use Rattle.chart_file.specs.Reading.{Reads};
 ghost use Rattle.chart_c.specs.Numbers.{turnNumber, orderNumber, pointOf};
+ghost use Rattle.chart_c.specs.Meetings.{noEnd, endFields, metAs, fieldsOf};
 use charts::Answer;
 use fractions::Order;
 use fractions::Point;
+use line_segment::EndPoint;
+use line_segment::Meeting;
 use orientation::Orientation;
+
+// An end of a stretch.
+#[repr(C)]
+pub struct End {
+    pub x: i16,
+    pub y: i16,
+    pub included: bool,
+}
+
+// How two pieces meet: `meets` is 0 for nothing, 1 for a crossing and 2 for an overlap, whose stretch runs from
+// `min` to `max`.
+#[repr(C)]
+pub struct Met {
+    pub number: u8,
+    pub place: usize,
+    pub meets: u8,
+    pub min: End,
+    pub max: End,
+}
 
 // Which way the three points turn, as its number.
 #[no_mangle]
@@ -56,4 +79,62 @@ pub extern "C" fn mirtalughe_read(file: &[u8], list: &mut [i32]) -> Answer
     ensures { λ r. ⌜ Reads (now (file .entry)) (now (list .entry)) r (now (list .exit)) ⌝ }
 {
     chart_file::read(file, list)
+}
+
+fn end_of(e: EndPoint) -> End
+    ensures { λ r. ⌜ r ≡ endFields e ⌝ }
+{
+    End {
+        x: e.x,
+        y: e.y,
+        included: e.included,
+    }
+}
+
+fn no_end() -> End
+    ensures { λ r. ⌜ r ≡ noEnd ⌝ }
+{
+    End {
+        x: 0,
+        y: 0,
+        included: false,
+    }
+}
+
+fn fields(number: u8, place: usize, meeting: Meeting) -> Met
+    ensures { λ r. ⌜ r ≡ metAs number place meeting ⌝ }
+{
+    match meeting {
+        Meeting::Nothing => Met {
+            number,
+            place,
+            meets: 0,
+            min: no_end(),
+            max: no_end(),
+        },
+        Meeting::Crossing => Met {
+            number,
+            place,
+            meets: 1,
+            min: no_end(),
+            max: no_end(),
+        },
+        Meeting::Overlap(stretch) => Met {
+            number,
+            place,
+            meets: 2,
+            min: end_of(stretch.min),
+            max: end_of(stretch.max),
+        },
+    }
+}
+
+// How the two pieces of ten numbers meet, the first one asking.
+#[no_mangle]
+pub extern "C" fn mirtalughe_meeting(list: &[i32]) -> Met
+    ensures { λ r. ⌜ r ≡ fieldsOf (meetingOf (now (list .entry))) ⌝ }
+{
+    let answer = charts::meeting_of(list);
+    let meeting = answer.meeting;
+    fields(answer.number, answer.place, meeting)
 }

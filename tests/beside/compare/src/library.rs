@@ -2,13 +2,30 @@
 
 use std::cmp::Ordering;
 
-use crate::answers::{Answer, Point, Side};
+use crate::answers::{Answer, End, Meeting, Point, Refusal, Side};
 
 #[link(name = "chart_c", kind = "static")]
 unsafe extern "C" {
   safe fn mirtalughe_orient(x1: i16, y1: i16, x2: i16, y2: i16, x3: i16, y3: i16) -> i8;
   safe fn mirtalughe_compare_points(x1: i64, y1: i64, d1: u64, x2: i64, y2: i64, d2: u64) -> i8;
+  fn mirtalughe_meeting(list: *const i32, length: usize) -> Met;
   fn mirtalughe_read(file: *const u8, size: usize, list: *mut i32, lent: usize) -> Answer;
+}
+
+#[repr(C)]
+struct Met {
+  number: u8,
+  place: usize,
+  meets: u8,
+  min: MetEnd,
+  max: MetEnd,
+}
+
+#[repr(C)]
+struct MetEnd {
+  x: i16,
+  y: i16,
+  included: bool,
 }
 
 pub fn orient(p: [i32; 2], q: [i32; 2], r: [i32; 2]) -> Side {
@@ -28,6 +45,25 @@ pub fn order(p: &Point, q: &Point) -> Ordering {
     0 => Ordering::Equal,
     1 => Ordering::Greater,
     other => panic!("{other} is the number of no order"),
+  }
+}
+
+/// How the two pieces of a list meet, or why it is refused. Fields that are not in use are zero.
+pub fn meeting(list: &[i32]) -> Result<Meeting, Refusal> {
+  let met = unsafe { mirtalughe_meeting(list.as_ptr(), list.len()) };
+  let unused = |e: &MetEnd| (e.x, e.y, e.included) == (0, 0, false);
+  let end = |e: &MetEnd| End {
+    x: e.x.into(),
+    y: e.y.into(),
+    included: e.included,
+  };
+  match (met.number, met.meets) {
+    (0, 2) if met.place == 0 => Ok(Meeting::Overlap(end(&met.min), end(&met.max))),
+    _ if !unused(&met.min) || !unused(&met.max) => panic!("an end is not zero"),
+    (0, 0) if met.place == 0 => Ok(Meeting::Nothing),
+    (0, 1) if met.place == 0 => Ok(Meeting::Crossing),
+    (number, 0) if number > 0 => Err((number, met.place)),
+    (number, meets) => panic!("number {number}, meets {meets}, place {}", met.place),
   }
 }
 

@@ -2,6 +2,7 @@
 
 use crate::answers::{Chart, LIMIT, MOST_PIECES, Piece, Refusal, has_length};
 use crate::case::{Case, agree};
+use crate::library;
 
 pub fn compare(case: &Case) -> Result<(), String> {
   let sound = numbers(&case.chart);
@@ -13,11 +14,31 @@ pub fn compare(case: &Case) -> Result<(), String> {
     "model",
     verdict(&sound),
   )?;
+  compare_pair_call(&sound)?;
   for (list, refusal) in damaged(&case.chart) {
     let call = || format!("the list {list:?}");
     agree(call, "scope", Err(refusal), "model", verdict(&list))?;
+    compare_pair_call(&list)?;
   }
   Ok(())
+}
+
+/// "The pair calls take ten numbers: any other length is 9."
+fn compare_pair_call(list: &[i32]) -> Result<(), String> {
+  let ten = list.len() == 10;
+  let refusal = if ten {
+    verdict(list).err()
+  } else {
+    Some((9, 0))
+  };
+  let call = || format!("refusal of the segment test on {list:?}");
+  agree(
+    call,
+    "model",
+    refusal,
+    "library",
+    library::meeting(list).err(),
+  )
 }
 
 pub fn numbers(chart: &Chart) -> Vec<i32> {
