@@ -1,6 +1,6 @@
 -- What is known of an accepted list: its count, its numbers, and that each piece has some length.
 -- Assumes nothing.
-use mathlib.Core.Path.{_≡_, sym}
+use mathlib.Core.Path.{_≡_, sym, _∙_}
 use mathlib.Core.List.{List}
 use mathlib.Core.Logic.{inl, inr}
 use Prim.Native.Nat.{ℕ, _≤_, _<_}
@@ -9,7 +9,8 @@ use Rattle.integers.proofs.Order.{Tri, less, same, more, tri, ≡→≤}
 use Rattle.fractions.specs.declared.Order.the-variants.{Less, Greater}
 use Rattle.line_segment.specs.declared.EndPoint.{EndPoint}
 use Rattle.line_segment.specs.Piece.{endOrder, joinBy, joinOf, pieceOf, HasLength, firstIncluded, secondIncluded}
-use Rattle.line_segment.proofs.Ends.{less-x, greater-x, less-y, greater-y}
+use Rattle.fractions.specs.Order.{order}
+use Rattle.line_segment.proofs.Ends.{end-order-is, less-first, greater-first, less-second, greater-second}
 use Rattle.charts.specs.Fault.{range}
 use Rattle.charts.specs.Chart.{most, numberAt, verdictOf}
 use Rattle.charts.specs.Piece.{kindOf, coordinateOf, pieceAt}
@@ -43,10 +44,12 @@ apart a b d = go (tri (a .x) (b .x)) (tri (a .y) (b .y))
     back e f = rw (e, f)
 
     go : Tri (a .x) (b .x) → Tri (a .y) (b .y) → HasLength (joinBy (endOrder a b) a b)
-    go (less h) _ = forth (less-x a b h)
-    go (more h) _ = back (greater-x a b h) (less-x b a h)
-    go (same e) (less h) = forth (less-y a b (≡→≤ e) (≡→≤ (sym e)) h)
-    go (same e) (more h) = back (greater-y a b (≡→≤ e) (≡→≤ (sym e)) h) (less-y b a (≡→≤ (sym e)) (≡→≤ e) h)
+    go (less h) _ = forth (end-order-is a b ∙ sym (less-first (order (a .y) (b .y)) h))
+    go (more h) _ =
+        back (end-order-is a b ∙ sym (greater-first (order (a .y) (b .y)) h)) (end-order-is b a ∙ sym (less-first (order (b .y) (a .y)) h))
+    go (same e) (less h) = forth (end-order-is a b ∙ sym (less-second (≡→≤ e) (≡→≤ (sym e)) h))
+    go (same e) (more h) =
+        back (end-order-is a b ∙ sym (greater-second (≡→≤ e) (≡→≤ (sym e)) h)) (end-order-is b a ∙ sym (less-second (≡→≤ (sym e)) (≡→≤ e) h))
     go (same e) (same f) = absurd (d (e, f))
 
 in-range : (v : ℤ) → ¬ Off v → coordinateOf v ≡ v
