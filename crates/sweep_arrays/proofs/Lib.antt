@@ -21,3 +21,5 @@ pub mod Begun
 pub mod Ranging
 pub mod Stepping
 pub mod Simulation
+pub mod ShiftRight
+pub mod ShiftLeft
