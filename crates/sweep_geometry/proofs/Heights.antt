@@ -1,27 +1,28 @@
--- The order of the active list at a point: it orders, and on sloped pieces it is told by the gap and the tilt.
+-- Both orders of the active list are strict total orders on every chart (`full-trans`, `ported-trans` and so on); on sloped
+-- pieces the height is told by the gap, the slope by the tilt.
 use mathlib.Core.Path.{_≡_, refl, sym, ap, _∙_}
 use mathlib.Core.Logic.{_≢_}
 use mathlib.Core.Bool.{true, false}
 use mathlib.Core.List.{[], _∷_}
 use Prim.Native.Nat.{ℕ, _<_}
-use native.Mathlib.Omega.{arith}
 use lib.IntN.{ℤ, pos, _-ℤ_, _*ℤ_}
-use lib.Signed.{_<ℤ_}
+use lib.Signed.{_<ℤ_, ltZ-yes}
 use Rattle.integers.proofs.Identity.{by-ring, terms}
 use Rattle.integers.proofs.Signs.{<-diff, p*p}
 use Rattle.integers.proofs.Order.{<-cert}
-use Rattle.integers.proofs.Naturals.{pos-<, pos-injective}
-use Rattle.fractions.specs.Order.{order, turned, andThen}
+use Rattle.integers.proofs.Naturals.{pos-<}
+use Rattle.fractions.specs.Order.{order}
 use Rattle.fractions.specs.declared.Order.{Order}
-use Rattle.fractions.specs.declared.Order.the-variants.{Less, Equal, Greater}
+use Rattle.fractions.specs.declared.Order.the-variants.{Equal}
 use Rattle.fractions.specs.declared.Point.{Point}
-use Rattle.fractions.proofs.Orders.{Answer, is-less, is-equal, is-greater, answer, order-less, order-equal, order-greater, equal-order}
+use Rattle.fractions.proofs.Orders.{Answer, is-less, is-equal, is-greater, answer, order-less, order-equal, order-greater}
 use Rattle.line_segment.specs.declared.LineSegment.{LineSegment}
 use Rattle.line_segment.specs.Geometry.{run, rise}
-use Rattle.sweep.specs.Ported.{isLess, heightAbove, heightBelow, slopeOrder}
+use Rattle.sweep.specs.Ported.{isLess, heightAbove, heightBelow, heightOrder, slopeOrder, rankOrder}
 use Rattle.sweep_geometry.specs.Full.{fullAbove, fullBelow, fullHeightOrder, fullOrder}
-use Rattle.sweep_geometry.proofs.Comparisons.{Said, said-less, said-equal, said-greater, say, then-equal, Orders, then-orders, order-scaled, fraction-orders, number-orders}
-use Rattle.sweep_geometry.proofs.Slopes.{Lie, sloped, standing, sloped-not, standing-is, slope-orders}
+use Rattle.sweep_geometry.proofs.Comparisons.{Orders, order-scaled, fraction-orders}
+use Rattle.sweep_geometry.proofs.Ranking.{rank-irr, rank-trans, rank-total}
+use Rattle.sweep_geometry.proofs.Slopes.{Lie, sloped, standing, sloped-not, standing-is}
 use Rattle.sweep_geometry.proofs.Gap.{tilt, gap, slope-tilt, sloped-above, gap-heights}
 
 module _ (s : LineSegment) (p : Point) where
@@ -45,52 +46,54 @@ module _ (s : LineSegment) (p : Point) where
   below-up d (sloped h) = rw (below-sloped h) (p*p h (pos-< d))
   below-up d (standing e k) = rw (below-standing e) (pos-< d)
 
-height-orders : (p : Point) → 0 < p .d → Orders Lie (fullHeightOrder p)
-unfolding fullHeightOrder
-height-orders p d = fraction-orders (λ s. fullAbove s p) (λ s. fullBelow s p) (λ s l. below-up s p d l)
+-- ---- the two orders of the active list
+module _ (p : Point) where
+  full-heights : 0 < p .d → Orders Lie (fullHeightOrder p)
+  unfolding fullHeightOrder
+  full-heights d = fraction-orders (λ s. fullAbove s p) (λ s. fullBelow s p) (λ s l. below-up s p d l)
 
-module _ (piece : ℕ → LineSegment) where
-  numbered : {f : LineSegment → LineSegment → Order} → Orders Lie f → Orders (λ i. Lie (piece i)) (λ i j. f (piece i) (piece j))
-  numbered F =
-      record {
-        turns = λ i j a b. F .turns (piece i) (piece j) a b;
-        alike = λ i j k a b c. F .alike (piece i) (piece j) (piece k) a b c;
-        chain = λ i j k a b c. F .chain (piece i) (piece j) (piece k) a b c;
-      }
+  full-even : (s : LineSegment) → fullHeightOrder p s s ≡ Equal
+  unfolding fullHeightOrder
+  full-even s = order-equal refl
 
-  module _ (p : Point) where
-    pub full-orders : 0 < p .d → Orders (λ i. Lie (piece i)) (fullOrder piece p)
+  ported-up : 0 < p .d → (s : LineSegment) → Lie s → pos 0 <ℤ heightBelow s p
+  unfolding heightBelow
+  ported-up d s (sloped h) = rw (sloped-not s h) (p*p h (pos-< d))
+  ported-up d s (standing e k) = rw (standing-is s e) (ltZ-yes tt)
+
+  ported-heights : 0 < p .d → Orders Lie (heightOrder p)
+  unfolding heightOrder
+  ported-heights d = fraction-orders (λ s. heightAbove s p) (λ s. heightBelow s p) (ported-up d)
+
+  ported-even : (s : LineSegment) → heightOrder p s s ≡ Equal
+  unfolding heightOrder
+  ported-even s = order-equal refl
+
+module _ (piece : ℕ → LineSegment) (p : Point) where
+  pub full-irr : (i : ℕ) → isLess (fullOrder piece p i i) ≡ false
+  unfolding fullOrder
+  full-irr = rank-irr piece (fullHeightOrder p) (full-even p)
+
+  pub ported-irr : (i : ℕ) → isLess (rankOrder piece p i i) ≡ false
+  unfolding rankOrder
+  ported-irr = rank-irr piece (heightOrder p) (ported-even p)
+
+  module _ (d : 0 < p .d) (i j : ℕ) (a : Lie (piece i)) (b : Lie (piece j)) where
+    pub full-trans : (k : ℕ) → Lie (piece k) → isLess (fullOrder piece p i j) ≡ true → isLess (fullOrder piece p j k) ≡ true → isLess (fullOrder piece p i k) ≡ true
     unfolding fullOrder
-    full-orders d = then-orders (numbered (height-orders p d)) (then-orders (numbered slope-orders) number-orders)
+    full-trans = rank-trans piece (fullHeightOrder p) (full-heights p d) i j a b
 
-    pub before-irr : (i : ℕ) → isLess (fullOrder piece p i i) ≡ false
-    unfolding fullOrder fullHeightOrder slopeOrder
-    before-irr i = rw (order-equal {a = fullAbove (piece i) p *ℤ fullBelow (piece i) p} refl, order-equal {a = rise (piece i) *ℤ run (piece i)} refl, order-equal {a = pos i} refl)
-
-    less-is : {o : Order} → isLess o ≡ true → o ≡ Less
-    less-is {o} e = go o e
-      where
-        go : (o : Order) → isLess o ≡ true → o ≡ Less
-        go Less e = refl
-        go Equal e = absurd (let z : _≡_ {A = ℕ} 0 1 = cc in omega arith)
-        go Greater e = absurd (let z : _≡_ {A = ℕ} 0 1 = cc in omega arith)
-
-    full-equal : (i j : ℕ) → fullOrder piece p i j ≡ Equal → i ≡ j
+    pub full-total : i ≢ j → isLess (fullOrder piece p i j) ≡ false → isLess (fullOrder piece p j i) ≡ true
     unfolding fullOrder
-    full-equal i j e =
-        let h = then-equal (fullHeightOrder p (piece i) (piece j)) (andThen (slopeOrder (piece i) (piece j)) (order (pos i) (pos j))) e in
-        pos-injective (equal-order (pos i) (pos j) ((then-equal (slopeOrder (piece i) (piece j)) (order (pos i) (pos j)) (h .1)) .1))
+    full-total = rank-total piece (fullHeightOrder p) (full-heights p d) i j a b
 
-    pub before-trans : 0 < p .d → (i j k : ℕ) → Lie (piece i) → Lie (piece j) → Lie (piece k) → isLess (fullOrder piece p i j) ≡ true → isLess (fullOrder piece p j k) ≡ true → isLess (fullOrder piece p i k) ≡ true
-    before-trans d i j k a b c e f = ap isLess ((full-orders d) .chain i j k a b c (less-is e) (less-is f))
+    pub ported-trans : (k : ℕ) → Lie (piece k) → isLess (rankOrder piece p i j) ≡ true → isLess (rankOrder piece p j k) ≡ true → isLess (rankOrder piece p i k) ≡ true
+    unfolding rankOrder
+    ported-trans = rank-trans piece (heightOrder p) (ported-heights p d) i j a b
 
-    pub before-total : 0 < p .d → (i j : ℕ) → Lie (piece i) → Lie (piece j) → i ≢ j → isLess (fullOrder piece p i j) ≡ false → isLess (fullOrder piece p j i) ≡ true
-    before-total d i j a b ne e = go (say (fullOrder piece p i j))
-      where
-        go : Said (fullOrder piece p i j) → isLess (fullOrder piece p j i) ≡ true
-        go (said-less h) = absurd (let x : true ≡ false = ap isLess (sym h) ∙ e in let z : _≡_ {A = ℕ} 0 1 = cc in omega arith)
-        go (said-equal h) = absurd (ne (full-equal i j h))
-        go (said-greater h) = ap isLess ((full-orders d) .turns i j a b ∙ ap turned h)
+    pub ported-total : i ≢ j → isLess (rankOrder piece p i j) ≡ false → isLess (rankOrder piece p j i) ≡ true
+    unfolding rankOrder
+    ported-total = rank-total piece (heightOrder p) (ported-heights p d) i j a b
 
 -- ---- sloped pieces: by the gap, then by the tilt
 pub order-diff : (a b : ℤ) → order a b ≡ order (pos 0) (b -ℤ a)

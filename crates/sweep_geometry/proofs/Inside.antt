@@ -22,11 +22,6 @@ unfolding pointOf
 whole e = omega arith
 
 -- ---- the order of points as the chart asks for it
-pub less-is : (o : Order) → isLess o ≡ true → o ≡ Less
-less-is Less e = refl
-less-is Equal e = absurd (let z : _≡_ {A = ℕ} 0 1 = cc in omega arith)
-less-is Greater e = absurd (let z : _≡_ {A = ℕ} 0 1 = cc in omega arith)
-
 -- q is not less than p: p is at most q
 pub at-most : (p q : Point) → isLess (pointOrder q p) ≡ false → ¬ (pointOrder p q ≡ Greater)
 at-most p q e g =

@@ -1,6 +1,7 @@
 pub mod Comparisons
 pub mod Gap
 pub mod Slopes
+pub mod Ranking
 pub mod Heights
 pub mod Inside
 pub mod Asked

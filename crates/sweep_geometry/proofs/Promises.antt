@@ -3,17 +3,14 @@
 use mathlib.Core.Path.{_≡_, refl, ap}
 use mathlib.Core.Bool.{false}
 use Prim.Native.Nat.{ℕ}
-use lib.IntN.{pos, _*ℤ_}
 use Rattle.fractions.specs.declared.Point.{Point}
-use Rattle.fractions.proofs.Orders.{order-equal}
 use Rattle.line_segment.specs.declared.LineSegment.{LineSegment}
-use Rattle.line_segment.specs.Geometry.{run, rise}
-use Rattle.sweep.specs.Ported.{isLess, isUpright, heightAbove, heightBelow, heightOrder, slopeOrder, rankOrder, ported}
+use Rattle.sweep.specs.Ported.{isLess, isUpright, heightAbove, heightBelow, heightOrder, rankOrder, ported}
 use Rattle.sweep.proofs.Promises.{promises}
 use Rattle.sweep_geometry.specs.Full.{fullAbove, fullBelow, fullHeightOrder, fullOrder, full}
 use Rattle.sweep_geometry.specs.Demand.{PortedSweeps, FullSweeps}
 use Rattle.sweep_geometry.proofs.Asked.{Asked}
-use Rattle.sweep_geometry.proofs.Heights.{before-irr}
+use Rattle.sweep_geometry.proofs.Heights.{full-irr, ported-irr}
 use Rattle.sweep_geometry.proofs.Supply.{geometry}
 
 -- ---- without upright pieces the two orders are one
@@ -31,14 +28,9 @@ module _ (piece : ℕ → LineSegment) (p : Point) where
   unfolding fullOrder rankOrder fullHeightOrder heightOrder
   same-order i j e f = rw (same-above (piece i) p e, same-above (piece j) p f, same-below (piece i) p e, same-below (piece j) p f)
 
-  ported-irr : (i : ℕ) → isLess (rankOrder piece p i i) ≡ false
-  unfolding rankOrder heightOrder slopeOrder
-  ported-irr i =
-      rw (order-equal {a = heightAbove (piece i) p *ℤ heightBelow (piece i) p} refl, order-equal {a = rise (piece i) *ℤ run (piece i)} refl, order-equal {a = pos i} refl)
-
 pub full-sweeps : Asked → FullSweeps
 full-sweeps T n piece ok =
-    promises (full n piece) (geometry T n piece ok (λ p i j. isLess (fullOrder piece p i j)) (before-irr piece) (λ p i j hi hj. refl))
+    promises (full n piece) (geometry T n piece ok (λ p i j. isLess (fullOrder piece p i j)) (full-irr piece) (λ p i j hi hj. refl))
 
 pub ported-sweeps : Asked → PortedSweeps
 ported-sweeps T n piece ok flat =

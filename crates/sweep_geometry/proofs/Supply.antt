@@ -34,8 +34,9 @@ use Rattle.sweep_geometry.specs.Demand.{AllProper}
 use Rattle.sweep_geometry.proofs.Asked.{Asked}
 use Rattle.sweep_geometry.proofs.Comparisons.{never}
 use Rattle.sweep_geometry.proofs.Slopes.{Lie, lie}
-use Rattle.sweep_geometry.proofs.Heights.{before-trans, before-total}
-use Rattle.sweep_geometry.proofs.Inside.{whole, less-is, at-most, not-less, On, on-of, on-line, on-from, on-upto, on-closed, lies-on, inside}
+use Rattle.sweep_geometry.proofs.Ranking.{less-is}
+use Rattle.sweep_geometry.proofs.Heights.{full-trans, full-total}
+use Rattle.sweep_geometry.proofs.Inside.{whole, at-most, not-less, On, on-of, on-line, on-from, on-upto, on-closed, lies-on, inside}
 use Rattle.sweep_geometry.proofs.Turning.{crossing-of, CrossIn}
 use Rattle.sweep_geometry.proofs.Squeeze.{Precedes, squeeze}
 use Rattle.sweep_geometry.proofs.Aligned.{aligned-dec, aligned-trans}
@@ -250,8 +251,8 @@ module _ (T : Asked) (n : ℕ) (piece : ℕ → LineSegment) (ok : AllProper n p
         before-irr = irr;
         before-trans = λ p o i j k ui uj uk e f.
             sym (agree p i k (ui .0) (uk .0))
-            ∙ before-trans piece p (positive p o) i j k (lies i (ui .0)) (lies j (uj .0)) (lies k (uk .0)) (agree p i j (ui .0) (uj .0) ∙ e) (agree p j k (uj .0) (uk .0) ∙ f);
+            ∙ full-trans piece p (positive p o) i j (lies i (ui .0)) (lies j (uj .0)) k (lies k (uk .0)) (agree p i j (ui .0) (uj .0) ∙ e) (agree p j k (uj .0) (uk .0) ∙ f);
         before-total = λ p o i j ui uj ne e.
-            sym (agree p j i (uj .0) (ui .0)) ∙ before-total piece p (positive p o) i j (lies i (ui .0)) (lies j (uj .0)) ne (agree p i j (ui .0) (uj .0) ∙ e);
+            sym (agree p j i (uj .0) (ui .0)) ∙ full-total piece p (positive p o) i j (lies i (ui .0)) (lies j (uj .0)) ne (agree p i j (ui .0) (uj .0) ∙ e);
         squeeze = squeezed;
       }
