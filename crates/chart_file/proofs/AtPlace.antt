@@ -1,19 +1,17 @@
 -- What stands in groups at a place is read in one way: a number from its groups, and its groups from the number.
-use mathlib.Core.Path.{_≡_, refl, sym, ap, _∙_}
-use mathlib.Core.Bool.{Bool, true, false, cond, _&&_, and-false}
+use mathlib.Core.Path.{_≡_, sym, ap, _∙_}
+use mathlib.Core.Bool.{false, _&&_, and-false}
 use mathlib.Core.List.{List, [], _∷_, _++_}
 use Prim.Native.Nat.{ℕ, zero, suc, _+_, _^_, _≤_, _<_}
-use native.Mathlib.Nat.{pow-le-pow-right}
 use native.Mathlib.Decide.{decLt}
 use native.Mathlib.Omega.{arith}
-use borrow.Author.Tests.{ltb-true, eqb-true, le-ltb, lt-ltb, le-leb, lt-leb, ne-eqb, eq-eqb}
-use lib.Dec.{leb, ltb, eqb}
+use borrow.Author.Tests.{le-ltb, lt-leb, ne-eqb}
+use lib.Dec.{ltb, eqb}
 use lib.ListN.{length, getD, take, drop, length-append, List·getD-append}
-use lib.Seq.{take-append-seam, getD-take, length-take-le, take-at}
-use Rattle.chart_file.specs.declared.Groups.{Groups}
-use Rattle.chart_file.specs.declared.Groups.the-variants.{Value, Fault}
+use lib.Seq.{take-append-seam, getD-take, length-take-le}
+use Rattle.chart_file.specs.declared.Groups.the-variants.{Value}
 use Rattle.chart_file.specs.Groups.{value, marked, groupsAt, spelled, Bytes, Canonical}
-use Rattle.chart_file.proofs.Spelling.{marked-last, marked-more, canonical-spelled, value-spelled, spelled-value, value-below, length-spelled}
+use Rattle.chart_file.proofs.Spelling.{marked-last, marked-more, canonical-spelled, value-spelled, length-spelled}
 
 -- What follows a number changes none of its marks.
 marked-front : (gs u : List ℕ) → suc (marked gs) ≡ length gs → marked (gs ++ u) ≡ marked gs

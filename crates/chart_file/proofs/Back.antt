@@ -3,18 +3,18 @@ use mathlib.Core.Path.{_≡_, refl, sym, ap, ap₂, _∙_, subst}
 use mathlib.Core.List.{List, [], _∷_, _++_, append-assoc}
 use Prim.Native.Nat.{ℕ, zero, suc, _+_, _*_, _%_, _≤_, _<_}
 use native.Mathlib.Omega.{arith}
-use borrow.Author.Tests.{le-leb, lt-leb, lt-ltb, le-ltb}
+use borrow.Author.Tests.{lt-leb, lt-ltb, le-ltb}
 use lib.IntN.{ℤ, pos}
 use lib.ListN.{length, getD, take, drop, length-drop, take-append-drop}
 use lib.Seq.{take-all, take-suc, drop-cons, length-take-le}
-use Rattle.charts.specs.Chart.{most, numberAt, faultAt}
-use Rattle.chart_file.specs.declared.Number.the-variants.{Read, Refused}
+use Rattle.charts.specs.Chart.{most, numberAt}
+use Rattle.chart_file.specs.declared.Number.the-variants.{Refused}
 use Rattle.chart_file.specs.Groups.{Bytes}
 use Rattle.chart_file.specs.Format.{bytesOf, bytesFrom}
-use Rattle.chart_file.specs.Reading.{Reading, due, stopped, standsAt, numbers, pieces, ended, readingOf}
+use Rattle.chart_file.specs.Reading.{Reading, due, stopped, numbers, pieces, ended, readingOf}
 use Rattle.chart_file.specs.Demand.{InRange, Amiss, placeOf, EndsEqual, Begins, Due, count-due, count, number, piece, extra, chart}
 use Rattle.chart_file.proofs.OneNumber.{well, ill, number-back}
-use Rattle.chart_file.proofs.Steps.{number-read, number-refused, numbers-stay, piece-refused, piece-short, piece-read, pieces-stay}
+use Rattle.chart_file.proofs.Steps.{number-read, piece-short, piece-read, pieces-stay, refused-stays}
 use Rattle.chart_file.proofs.Begun.{place-one, rest-there, begins-front, no-fault, ends-fault}
 
 last-off : (xs : List ℤ) (m : ℕ) → length xs ≡ suc m → xs ≡ take m xs ++ (getD xs m (pos 0) ∷ [])
@@ -88,9 +88,8 @@ module _ (s : List ℕ) (b : Bytes s) (n : ℕ) where
       let ys = take (5 * p) xs in
       let k = read-pieces p ys _ (length-take-le (5 * p) xs (omega arith)) (front p (5 * p) xs rest (omega arith) (omega arith) w) in
       let a′ : Amiss (drop (placeOf xs) s) (placeOf xs) c f = subst (λ (t : List ℕ). Amiss t (placeOf xs) c f) (sym (rest-there s n p xs rest w)) a in
-      let r = number-refused s c (pieces s p) xs (placeOf xs) f (read-numbers p (read-pieces p) c (omega arith) xs rest l w) (number-back s (placeOf xs) c (Refused f) b (ill c f a′)) in
       stopped-pieces _ f (placeOf xs) (w .file) (w .few)
-      (pieces-stay s (suc p) n f (placeOf xs) (piece-refused s p ys (placeOf ys) k f (placeOf xs) (numbers-stay s (suc c) 5 (pieces s p) f (placeOf xs) r q)) h)
+      (refused-stays s p n c f (placeOf ys) ys (placeOf xs) xs k (read-numbers p (read-pieces p) c (omega arith) xs rest l w) (number-back s (placeOf xs) c (Refused f) b (ill c f a′)) q h)
 
   piece-given : (p : ℕ) (xs : List ℤ) (rest : List ℕ) → p < n → length xs ≡ 5 * p + 5 → Begins s n p xs rest → EndsEqual xs p → readingOf s ≡ stopped 6 (placeOf (take (5 * p) xs))
   piece-given p xs rest h l w a =

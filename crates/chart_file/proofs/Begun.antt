@@ -2,16 +2,15 @@
 use mathlib.Core.Path.{_≡_, refl, sym, ap, _∙_, subst}
 use mathlib.Core.Logic.{_⊎_, ⊎-elim}
 use mathlib.Core.List.{List, [], _∷_, _++_, append-nil, append-assoc}
-use Prim.Native.Nat.{ℕ, zero, suc, _+_, _*_, _%_, _≤_, _<_}
+use Prim.Native.Nat.{ℕ, suc, _+_, _*_, _%_, _≤_, _<_}
 use native.Mathlib.Nat.{add-zero, zero-add}
 use native.Mathlib.Decide.{decLt}
 use native.Mathlib.Omega.{arith}
 use lib.IntN.{ℤ, pos}
-use lib.ListN.{length, getD, take, drop, length-append, List·getD-append}
+use lib.ListN.{length, getD, drop, length-append, List·getD-append}
 use lib.Seq.{drop-append-seam, getD-append-seam}
 use Rattle.charts.specs.Chart.{numberAt, faultAt}
-use Rattle.charts.specs.Fault.{faultOf}
-use Rattle.charts.specs.Demand.{Off, Row4, Row5, Row6, none, four, five, six}
+use Rattle.charts.specs.Demand.{Off, none, four, five, six}
 use Rattle.charts.specs.Demand.{Fault as Faulty}
 use Rattle.charts.proofs.Rows.{fault-due, fault-given}
 use Rattle.chart_file.specs.Format.{bytesOf, bytesFrom}

@@ -1,23 +1,22 @@
 -- Files and charts: a file that is read is its chart's file, and the file of a chart is read as that chart.
-use mathlib.Core.Path.{_≡_, refl, sym, ap, ap₂, _∙_, subst}
-use mathlib.Core.Logic.{⊎-elim, inl, inr}
+use mathlib.Core.Path.{_≡_, refl, sym, ap, _∙_, subst}
+use mathlib.Core.Logic.{inl, inr}
 use mathlib.Core.List.{List, [], _∷_, _++_, append-nil}
-use Prim.Native.Nat.{ℕ, zero, suc, _+_, _*_, _/_, _%_, _^_, _≤_, _<_}
+use Prim.Native.Nat.{ℕ, zero, suc, _+_, _*_, _/_, _%_, _≤_, _<_}
 use native.Mathlib.Nat.{add-zero, zero-add}
 use native.Mathlib.Omega.{arith}
-use lib.IntN.{ℤ, pos, natAbs}
+use lib.IntN.{ℤ, pos}
 use lib.ListN.{length, getD}
 use Rattle.charts.specs.Chart.{most, numberAt, verdictOf}
 use Rattle.charts.specs.Demand.{Row4, Row5, none, four, five, six, FaultOf, Sound}
-use Rattle.charts.specs.Demand.{Due as ChartDue, nine, three, done}
-use Rattle.charts.specs.Demand.{piece as ChartDue·piece}
+use Rattle.charts.specs.Demand.{Due as ChartDue, done}
 use Rattle.charts.specs.declared.Verdict.the-variants.{Accepted}
 use Rattle.charts.proofs.Exactly.{refuses-exactly}
 use Rattle.charts.proofs.Rows.{is-false, says-outside}
 use Rattle.charts.proofs.Ranges.{kind-in}
 use Rattle.chart_file.specs.Groups.{Bytes}
 use Rattle.chart_file.specs.Format.{bytesOf, bytesFrom, fileOf}
-use Rattle.chart_file.specs.Reading.{Reading, due, stopped, readingOf}
+use Rattle.chart_file.specs.Reading.{due}
 use Rattle.chart_file.specs.Demand.{InRange, placeOf, EndsEqual, Begins, Due, ReadsExactly, ReadsFile, FileReads, ReadsOnce}
 use Rattle.chart_file.specs.Demand.{chart as Due·chart}
 use Rattle.chart_file.proofs.Forth.{due-met}

@@ -7,12 +7,11 @@ use native.Mathlib.Decide.{decLt}
 use native.Mathlib.Omega.{arith}
 use borrow.Author.Tests.{eqb-true, eqb-false, ltb-true, ltb-false, lt-leb}
 use lib.Dec.{eqb, ltb}
-use lib.IntN.{ℤ, pos}
+use lib.IntN.{ℤ}
 use lib.ListN.{length, getD, take, drop, length-append, drop-of-length-le}
 use lib.Seq.{take-all, take-append-le, drop-cons}
 use Rattle.charts.specs.Chart.{most, numberAt, faultAt}
 use Rattle.chart_file.specs.declared.Number.{Number}
-use Rattle.chart_file.specs.declared.Number.the-variants.{Read, Refused}
 use Rattle.chart_file.specs.Groups.{Bytes}
 use Rattle.chart_file.specs.Format.{bytesOf, bytesFrom}
 use Rattle.chart_file.specs.Reading.{Reading, due, stopped, standsAt, joined, more, numbers, withLength, piece, pieces, ended, readingOf}

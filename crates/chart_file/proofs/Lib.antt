@@ -1,3 +1,13 @@
+-- Which file to open for which fact. From another crate: `use Rattle.chart_file.proofs.FILE.{..}`.
+--   a number and its groups                       Spelling     value-spelled, spelled-value, length-spelled, fewest
+--   groups read at a place                        AtPlace      canonical-read, spelled-read; Marks groups-exactly
+--   a coordinate and what it is stored as         Turned       signed-stored, stored-signed, outside-stored
+--   a number of a piece at a place                OneNumber    number-row, number-back
+--   how a reading goes on, and stays refused      Steps
+--   what a file begins with                       Begun
+--   a reading and its row                         Files        reads-exactly, by Forth and Back
+--   files and charts; the longest file            Files        reads-file, file-reads, reads-once; Longest
+-- `Passed`, `Numbers`, `Kept` and `Whole` are what the proofs of the code stand on.
 pub mod Spelling
 pub mod AtPlace
 pub mod Passed
@@ -9,9 +19,9 @@ pub mod Steps
 pub mod Begun
 pub mod Forth
 pub mod Back
-pub mod Once
 pub mod Files
 pub mod Longest
 pub mod Examples
 pub mod Kept
 pub mod Whole
+pub mod Once

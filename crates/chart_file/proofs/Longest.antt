@@ -1,17 +1,17 @@
 -- "The longest file has 833 bytes": 13 a piece and the count, and a full chart of the widest coordinates has as many.
-use mathlib.Core.Path.{_≡_, refl, sym, ap, _∙_, subst}
-use mathlib.Core.List.{List, [], _∷_, _++_}
-use Prim.Native.Nat.{ℕ, zero, suc, _+_, _*_, _/_, _%_, _≤_, _<_}
+use mathlib.Core.Path.{_≡_, refl, ap, _∙_}
+use mathlib.Core.List.{List, [], _∷_}
+use Prim.Native.Nat.{ℕ, zero, suc, _*_, _%_, _≤_}
 use native.Mathlib.Omega.{arith}
 use lib.IntN.{ℤ, pos, negsuc}
 use lib.ListN.{length, length-append}
 use Rattle.charts.specs.Fault.{outside, offRange, eqZ, sameEnds, faultOf}
 use Rattle.charts.specs.Chart.{most, numberAt, faultAt, pieces, verdictOf}
 use Rattle.charts.specs.declared.Verdict.the-variants.{Accepted}
-use Rattle.chart_file.specs.Groups.{spelled, Bytes}
+use Rattle.chart_file.specs.Groups.{spelled}
 use Rattle.chart_file.specs.Coordinate.{stored}
 use Rattle.chart_file.specs.Format.{groups, bytesOf, bytesFrom, fileOf, longest}
-use Rattle.chart_file.specs.Reading.{due, readingOf}
+use Rattle.chart_file.specs.Reading.{due}
 use Rattle.chart_file.specs.Demand.{NoLonger, SomeAsLong}
 use Rattle.chart_file.proofs.Spelling.{length-spelled}
 use Rattle.chart_file.proofs.Files.{reads-exactly, chart-row, file-reads}

@@ -1,17 +1,16 @@
 -- Number c of a piece at a place: it stands there well and in range, or it is refused for one reason.
 use mathlib.Core.Path.{_≡_, refl, sym, ap, _∙_, subst}
 use mathlib.Core.Bool.{Bool, true, false, cond}
-use mathlib.Core.List.{List, [], _∷_, _++_}
+use mathlib.Core.List.{List, _∷_, _++_}
 use Prim.Native.Nat.{ℕ, zero, suc, _+_, _^_, _≤_, _<_}
 use native.Mathlib.Decide.{decLt}
 use native.Mathlib.Omega.{arith}
 use borrow.Author.Tests.{lt-leb, ltb-true, ltb-false}
-use lib.Dec.{leb}
 use lib.IntN.{ℤ, pos, negℤ, natAbs}
 use lib.ListN.{length, getD, drop, length-drop, drop-of-length-le}
 use lib.Seq.{drop-cons}
 use Rattle.charts.specs.Fault.{range, outside}
-use Rattle.charts.specs.Demand.{Outside, Off}
+use Rattle.charts.specs.Demand.{Outside}
 use Rattle.charts.proofs.Rows.{is-true, is-false, says-outside}
 use Rattle.charts.proofs.Ranges.{kind-in}
 use Rattle.chart_file.specs.declared.Groups.{Groups}

@@ -1,12 +1,11 @@
 -- Groups passed with their high bit set, and what the rest then says of the whole: the steps of `groups_at`.
 use mathlib.Core.Path.{_≡_, refl, sym, ap, _∙_}
-use mathlib.Core.Bool.{Bool, true, false, cond, _&&_}
 use mathlib.Core.List.{List, [], _∷_}
-use Prim.Native.Nat.{ℕ, zero, suc, _+_, _*_, _-_, _%_, _^_, _≤_, _<_}
+use Prim.Native.Nat.{ℕ, suc, _+_, _*_, _-_, _%_, _^_, _≤_, _<_}
 use native.Mathlib.Nat.{pow-suc, zero-add, mul-add, mul-assoc, mul-le-mul-left}
 use native.Mathlib.Numerals.{add-one}
 use native.Mathlib.Omega.{arith}
-use borrow.Author.Tests.{le-leb, lt-leb, lt-ltb, le-ltb, eq-eqb}
+use borrow.Author.Tests.{le-leb, lt-leb, lt-ltb}
 use lib.ListN.{length, getD, take, drop, length-drop, drop-of-length-le}
 use lib.Seq.{drop-cons, getD-drop}
 use Rattle.chart_file.specs.declared.Groups.the-variants.{Value, Fault}
@@ -37,7 +36,7 @@ none-passed s at = record {
   weight = refl;
   small = omega arith;
   marks = omega arith;
-  stands = λ n. rw zero-add (omega arith);
+  stands = λ n. rw (zero-add n) (omega arith);
 }
 
 module _ (s : List ℕ) (at g i v w b : ℕ) (p : Passed s at g i v w) (h : i < length s) (e : b ≡ getD s i 0) where

@@ -1,8 +1,7 @@
 -- How a reading goes on from number to number and from piece to piece, and that a refusal stays.
-use mathlib.Core.Path.{_≡_, refl, sym, ap, _∙_}
-use mathlib.Core.Bool.{Bool, true, false, cond}
+use mathlib.Core.Path.{_≡_, ap, _∙_}
 use mathlib.Core.List.{List, [], _∷_, _++_}
-use Prim.Native.Nat.{ℕ, zero, suc, _+_, _-_, _≤_, _<_}
+use Prim.Native.Nat.{ℕ, zero, suc, _≤_, _<_}
 use native.Mathlib.Decide.{decLt}
 use native.Mathlib.Omega.{arith}
 use borrow.Author.Tests.{eq-eqb, ne-eqb}
@@ -53,3 +52,8 @@ pieces-stay s m (suc n) f q e h = elim (decLt m (suc n)) [
   | yes l ↦ rw (pieces-stay s m n f q e (omega arith))
   | no l ↦ let z : suc n ≡ m = omega arith in ap (pieces s) z ∙ e
 ]
+
+-- number c of piece p is refused, and the file with it
+pub refused-stays : (s : List ℕ) (p n c f start : ℕ) (xs : List ℤ) (at : ℕ) (ys : List ℤ) → pieces s p ≡ due xs start → numbers s c (pieces s p) ≡ due ys at → standsAt s c at ≡ Refused f → c < 5 → p < n → pieces s n ≡ stopped f at
+refused-stays s p n c f start xs at ys b e r h l =
+    pieces-stay s (suc p) n f at (piece-refused s p xs start b f at (numbers-stay s (suc c) 5 (pieces s p) f at (number-refused s c (pieces s p) ys at f e r) h)) l

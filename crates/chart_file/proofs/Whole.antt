@@ -1,12 +1,11 @@
 -- The whole file: which reading the tests before and after the pieces lead to, and what is answered for it.
 use mathlib.Core.Path.{_≡_, refl, sym, ap, _∙_}
 use mathlib.Core.List.{List, _++_}
-use Prim.Native.Nat.{ℕ, _+_, _*_, _/_, _≤_, _<_}
+use Prim.Native.Nat.{ℕ, _*_, _≤_, _<_}
 use native.Mathlib.Omega.{arith}
 use borrow.Author.Tests.{le-leb, lt-leb, lt-ltb, le-ltb}
 use lib.IntN.{ℤ}
 use lib.ListN.{length, getD, take, drop}
-use lib.Seq.{length-take-le}
 use Rattle.charts.specs.Chart.{most}
 use Rattle.charts.specs.declared.Answer.{Answer}
 use Rattle.charts.specs.Answer.{doneWith, refusedWith}

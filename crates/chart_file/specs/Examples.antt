@@ -1,6 +1,6 @@
 -- Document 01's examples of numbers and files, as one table over the definitions; the starred ones are the first five rows.
 use mathlib.Core.Path.{_≡_}
-use mathlib.Core.List.{List, [], _∷_}
+use mathlib.Core.List.{[], _∷_}
 use lib.IntN.{pos, negsuc}
 use Rattle.chart_file.specs.declared.Number.the-variants.{Read, Refused}
 use Rattle.chart_file.specs.Format.{bytesOf}

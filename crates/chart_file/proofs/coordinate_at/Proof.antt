@@ -1,6 +1,6 @@
+-- `coordinate_at`: each return stands at the coordinate that the groups and the range lead to.
 use borrow.Author.Needs.{needs}
 use mathlib.Core.Path.{sym, ap, _∙_}
-use native.Mathlib.Omega.{arith}
 use lib.IntN.{ℤ}
 use mir.Syntax.{w32}
 use mir.Facts.{toZ-ofZ}
@@ -9,24 +9,12 @@ use Rattle.chart_file.proofs.Numbers.{coordinate-fault, coordinate-wron
 use Rattle.chart_file.proofs.coordinate_at.Statement.{statement}
 use Rattle.chart_file.proofs.coordinate_at.Tie as tie
 
-groups-at-requires : tie.Need-groups-at-requires
-groups-at-requires c κs = search needs
-
-enum-known-f : tie.Need-enum-known-f
-enum-known-f c = search needs
-
-enum-known-v : tie.Need-enum-known-v
-enum-known-v c = search needs
-
 returns : tie.Need-returns
 returns c =
     let g = c .before .before .before .before in
     let a = g .before .before .args in
     let v = c .before .before .v .given in
     sym (coordinate-wrong (a .file .now) (a .at) (v .0 .0) (v .0 .1 .0) (sym (g .groups-at .ensures) ∙ v .1) (c .if1 .taken))
-
-signed-requires : tie.Need-signed-requires
-signed-requires c κs = search needs
 
 returns-2 : tie.Need-returns-2
 returns-2 c =
@@ -44,4 +32,4 @@ returns-3 c =
     ∙ sym (coordinate-right (a .file .now) (a .at) (v .0 .0) (v .0 .1 .0) (sym (g .groups-at .ensures) ∙ v .1) (c .before .if1 .left))
 
 pub coordinate-at-spec : {M : Type 1} → statement M
-coordinate-at-spec = tie.close (tie.spec groups-at-requires enum-known-f enum-known-v returns signed-requires returns-2 returns-3)
+coordinate-at-spec = tie.close (tie.spec (λ c κs. search needs) (λ c. search needs) (λ c. search needs) returns (λ c κs. search needs) returns-2 returns-3)

@@ -1,12 +1,12 @@
+-- `groups_at`: g groups are passed with their high bit set; each return ends the number there.
 use borrow.Author.Needs.{needs}
-use mathlib.Core.Path.{_≡_, refl, sym, ap, _∙_}
+use mathlib.Core.Path.{_≡_}
 use mathlib.Core.Logic.{⊎-elim}
-use Prim.Native.Nat.{ℕ, zero, suc, _+_, _*_, _-_, _^_, _≤_, _<_}
+use Prim.Native.Nat.{ℕ, zero, suc, _*_, _-_, _^_, _≤_, _<_}
 use native.Mathlib.Omega.{arith}
 use borrow.Author.Tests.{eqb-true, eqb-false}
 use native.Mathlib.Nat.{mul-le-mul-left}
 use lib.Dec.{lit≤}
-use lib.ListN.{length, getD}
 use Rattle.chart_file.proofs.Passed.{Passed, none-passed, one-passed, passed-value, passed-zero, passed-end, passed-most}
 use Rattle.chart_file.proofs.groups_at.Statement.{statement}
 use Rattle.chart_file.proofs.groups_at.Tie as tie
@@ -42,12 +42,6 @@ returns c =
     let st = l .before .before in
     passed-end 3 (st .args .file .now) (st .args .at) (l .loop .g) (l .loop .i) (l .loop .value) (l .loop .weight) (l .loop .inv .1) (omega arith) (omega arith)
 
-shared-slice-read-wide : tie.Need-shared-slice-read-wide Inv-loop μ-loop
-shared-slice-read-wide c = search needs
-
-wide-requires : tie.Need-wide-requires Inv-loop μ-loop
-wide-requires c κs = search needs
-
 returns-2 : tie.Need-returns-2 Inv-loop μ-loop
 returns-2 c =
     let a = c .before .before .before in
@@ -64,9 +58,6 @@ add-t15 : tie.Need-add-t15 Inv-loop μ-loop
 add-t15 c =
     let l = c .before .before .before .before .before .before in
     record { fits = omega (arith, l .loop .inv .1 .small, weighs (l .loop .g) (l .loop .weight) (c .before .before .wide .result) (omega arith) (l .loop .inv .1 .weight) (omega arith)) }
-
-add-t16 : tie.Need-add-t16 Inv-loop μ-loop
-add-t16 c = search needs
 
 returns-3 : tie.Need-returns-3 Inv-loop μ-loop
 returns-3 c =
@@ -91,15 +82,6 @@ mul-weight c =
     let l = c .before .before .before .before .before in
     record { fits = omega (arith, weighs (l .loop .g) (l .loop .weight) 127 (omega arith) (l .loop .inv .1 .weight) (omega arith)) }
 
-add-i : tie.Need-add-i Inv-loop μ-loop
-add-i c = search needs
-
-add-g : tie.Need-add-g Inv-loop μ-loop
-add-g c = search needs
-
-loop-less : tie.Need-loop-less Inv-loop μ-loop
-loop-less c = search needs
-
 loop-again : tie.Need-loop-again Inv-loop μ-loop
 loop-again c =
     let l = c .before .before .before .before .before in
@@ -120,18 +102,18 @@ groups-at-spec =
     μ-loop
     loop-holds
     returns
-    shared-slice-read-wide
-    wide-requires
+    (λ c. search needs)
+    (λ c κs. search needs)
     returns-2
     mul-t14
     add-t15
-    add-t16
+    (λ c. search needs)
     returns-3
     mul-value
     add-value
     mul-weight
-    add-i
-    add-g
-    loop-less
+    (λ c. search needs)
+    (λ c. search needs)
+    (λ c. search needs)
     loop-again
     returns-4)

@@ -1,3 +1,4 @@
+-- `kind_at`: each return stands at the kind that its tests lead to.
 use borrow.Author.Needs.{needs}
 use mathlib.Core.Path.{sym, ap, _∙_}
 use Prim.Native.Nat.{_+_}
@@ -13,17 +14,8 @@ use Rattle.chart_file.proofs.kind_at.Tie as tie
 returns : tie.Need-returns
 returns c = let a = c .before .args in sym (kind-due (a .file .now) (a .at) (omega arith))
 
-shared-slice-read-kind : tie.Need-shared-slice-read-kind
-shared-slice-read-kind c = search needs
-
 returns-2 : tie.Need-returns-2
 returns-2 c = let a = c .before .before .before .args in sym (kind-wrong (a .file .now) (a .at) (omega arith) (omega arith))
-
-cast-t8 : tie.Need-cast-t8
-cast-t8 c = search needs
-
-add-t4 : tie.Need-add-t4
-add-t4 c = search needs
 
 returns-3 : tie.Need-returns-3
 returns-3 c =
@@ -31,4 +23,4 @@ returns-3 c =
     ap (λ (z : ℤ). Read z (a .at + 1)) (toZ-pos w32 (omega arith)) ∙ sym (kind-right (a .file .now) (a .at) (omega arith) (omega arith))
 
 pub kind-at-spec : {M : Type 1} → statement M
-kind-at-spec = tie.close (tie.spec returns shared-slice-read-kind returns-2 cast-t8 add-t4 returns-3)
+kind-at-spec = tie.close (tie.spec returns (λ c. search needs) returns-2 (λ c. search needs) (λ c. search needs) returns-3)

@@ -1,18 +1,17 @@
+-- `pieces`: p pieces are read into the front of the list, and c numbers of the next; each way out gives the reading there.
 use borrow.Author.Needs.{needs}
 use mathlib.Core.Path.{_≡_, refl, sym, ap, _∙_}
-use mathlib.Core.List.{List, [], _∷_, _++_}
-use Prim.Native.Nat.{ℕ, zero, suc, _+_, _*_, _-_, _≤_, _<_}
+use Prim.Native.Nat.{ℕ, suc, _+_, _*_, _-_, _≤_}
 use native.Mathlib.Omega.{arith}
-use lib.ListN.{length, getD, set, take, length-set}
 use native.Mathlib.Numerals.{add-one}
-use lib.IntN.{ℤ}
+use lib.ListN.{length, take, length-set}
 use mir.Syntax.{w32}
 use mir.Facts.{toZ-ofZ}
 use Rattle.charts.specs.Chart.{faultAt}
-use Rattle.chart_file.specs.Reading.{kindAt, coordinateAt, due, stopped, standsAt, numbers, pieces}
+use Rattle.chart_file.specs.Reading.{kindAt, coordinateAt, due, standsAt, numbers, pieces}
 use Rattle.chart_file.specs.declared.Number.the-variants.{Refused}
 use Rattle.chart_file.proofs.Numbers.{kind-numbered, coordinate-numbered}
-use Rattle.chart_file.proofs.Steps.{number-refused, numbers-stay, piece-refused, piece-short, piece-read, pieces-stay}
+use Rattle.chart_file.proofs.Steps.{piece-short, piece-read, pieces-stay, refused-stays}
 use Rattle.chart_file.proofs.Kept.{coordinate-stands, number-stored, front-fault, left-due, left-stopped}
 use Rattle.chart_file.proofs.pieces.Statement.{statement}
 use Rattle.chart_file.proofs.pieces.Tie as tie
@@ -29,11 +28,7 @@ Inv-file file count list₀ at₀ fault₀ p₀ list at fault p = (p ≤ count) 
 abbrev μ-file : tie.MeasureT-file
 μ-file file count list₀ at₀ fault₀ p₀ list at fault p = count - p
 
--- number c of piece p is refused, and the file with it
-stops : (s : List ℕ) (p n c f start : ℕ) (xs : List ℤ) (at : ℕ) (ys : List ℤ) → pieces s p ≡ due xs start → numbers s c (pieces s p) ≡ due ys at → standsAt s c at ≡ Refused f → c < 5 → p < n → pieces s n ≡ stopped f at
-stops s p n c f start xs at ys b e r h l =
-    pieces-stay s (suc p) n f at (piece-refused s p xs start b f at (numbers-stay s (suc c) 5 (pieces s p) f at (number-refused s c (pieces s p) ys at f e r) h)) l
-
+-- the fault asked for is that of the piece just read
 fault-there : (c : tie.After-fault-of Inv-loop μ-loop Inv-file μ-file) →
     let l = c .before .before .before .before .before .before .before in
     let p = l .before .before .before .before .before .before .file .p in
@@ -57,24 +52,6 @@ file-holds : tie.Need-file-holds Inv-loop μ-loop Inv-file μ-file
 unfolding pieces
 file-holds c = (omega arith, refl, c .before .pre .1, refl)
 
-mul-first : tie.Need-mul-first Inv-loop μ-loop Inv-file μ-file
-mul-first c = search needs
-
-kind-at-requires : tie.Need-kind-at-requires Inv-loop μ-loop Inv-file μ-file
-kind-at-requires c κs = search needs
-
-enum-known-f : tie.Need-enum-known-f Inv-loop μ-loop Inv-file μ-file
-enum-known-f c = search needs
-
-enum-known-v : tie.Need-enum-known-v Inv-loop μ-loop Inv-file μ-file
-enum-known-v c = search needs
-
-mul-v : tie.Need-mul-v Inv-loop μ-loop Inv-file μ-file
-mul-v c = search needs
-
-element-set-from-v : tie.Need-element-set-from-v Inv-loop μ-loop Inv-file μ-file
-element-set-from-v c = search needs
-
 loop-holds : tie.Need-loop-holds Inv-loop μ-loop Inv-file μ-file
 unfolding numbers standsAt
 loop-holds c =
@@ -89,30 +66,6 @@ loop-holds c =
       length-set (l .file .list) _ _ ∙ l .file .inv .2,
       number-stored s 0 (pieces s (l .file .p)) (l .file .list) (5 * l .file .p) (l .file .at) (v .0 .0) _ (v .0 .1 .0) 1 _ (l .file .inv .3) (sym (k .kind-at .ensures) ∙ v .1) (toZ-ofZ {w = w32} (record { sfits = c .known-told2 .given .0 .1 })) (omega arith) refl (add-one _),
     )
-
-coordinate-at-requires : tie.Need-coordinate-at-requires Inv-loop μ-loop Inv-file μ-file
-coordinate-at-requires c κs = search needs
-
-enum-known-f-2 : tie.Need-enum-known-f-2 Inv-loop μ-loop Inv-file μ-file
-enum-known-f-2 c = search needs
-
-enum-known-v-2 : tie.Need-enum-known-v-2 Inv-loop μ-loop Inv-file μ-file
-enum-known-v-2 c = search needs
-
-add-v : tie.Need-add-v Inv-loop μ-loop Inv-file μ-file
-add-v c = search needs
-
-mul-v-2 : tie.Need-mul-v-2 Inv-loop μ-loop Inv-file μ-file
-mul-v-2 c = search needs
-
-element-set-from-v-2 : tie.Need-element-set-from-v-2 Inv-loop μ-loop Inv-file μ-file
-element-set-from-v-2 c = search needs
-
-add-c : tie.Need-add-c Inv-loop μ-loop Inv-file μ-file
-add-c c = search needs
-
-loop-less : tie.Need-loop-less Inv-loop μ-loop Inv-file μ-file
-loop-less c = search needs
 
 loop-again : tie.Need-loop-again Inv-loop μ-loop Inv-file μ-file
 loop-again c =
@@ -130,57 +83,6 @@ loop-again c =
       number-stored s (l .loop .c) (pieces s (o .file .p)) (l .loop .list) (5 * o .file .p + l .loop .c) (l .loop .at) (v .0 .0) _ (v .0 .1 .0) (l .loop .c + 1) (5 * o .file .p + (l .loop .c + 1)) (i .4)
           (coordinate-stands s (l .loop .c) (l .loop .at) (i .0) ∙ sym (k .coordinate-at .ensures) ∙ v .1) (toZ-ofZ {w = w32} (record { sfits = c .known-told4 .given .0 .1 })) (omega arith) (add-one (l .loop .c)) (omega arith),
     )
-
-mul-fault-of : tie.Need-mul-fault-of Inv-loop μ-loop Inv-file μ-file
-mul-fault-of c = search needs
-
-element-copy-out-fault-of : tie.Need-element-copy-out-fault-of Inv-loop μ-loop Inv-file μ-file
-element-copy-out-fault-of c = search needs
-
-add-fault-of : tie.Need-add-fault-of Inv-loop μ-loop Inv-file μ-file
-add-fault-of c = search needs
-
-mul-fault-of-2 : tie.Need-mul-fault-of-2 Inv-loop μ-loop Inv-file μ-file
-mul-fault-of-2 c = search needs
-
-element-copy-out-fault-of-2 : tie.Need-element-copy-out-fault-of-2 Inv-loop μ-loop Inv-file μ-file
-element-copy-out-fault-of-2 c = search needs
-
-add-fault-of-2 : tie.Need-add-fault-of-2 Inv-loop μ-loop Inv-file μ-file
-add-fault-of-2 c = search needs
-
-mul-fault-of-3 : tie.Need-mul-fault-of-3 Inv-loop μ-loop Inv-file μ-file
-mul-fault-of-3 c = search needs
-
-element-copy-out-fault-of-3 : tie.Need-element-copy-out-fault-of-3 Inv-loop μ-loop Inv-file μ-file
-element-copy-out-fault-of-3 c = search needs
-
-add-fault-of-3 : tie.Need-add-fault-of-3 Inv-loop μ-loop Inv-file μ-file
-add-fault-of-3 c = search needs
-
-mul-fault-of-4 : tie.Need-mul-fault-of-4 Inv-loop μ-loop Inv-file μ-file
-mul-fault-of-4 c = search needs
-
-element-copy-out-fault-of-4 : tie.Need-element-copy-out-fault-of-4 Inv-loop μ-loop Inv-file μ-file
-element-copy-out-fault-of-4 c = search needs
-
-add-fault-of-4 : tie.Need-add-fault-of-4 Inv-loop μ-loop Inv-file μ-file
-add-fault-of-4 c = search needs
-
-mul-fault-of-5 : tie.Need-mul-fault-of-5 Inv-loop μ-loop Inv-file μ-file
-mul-fault-of-5 c = search needs
-
-element-copy-out-fault-of-5 : tie.Need-element-copy-out-fault-of-5 Inv-loop μ-loop Inv-file μ-file
-element-copy-out-fault-of-5 c = search needs
-
-fault-of-requires : tie.Need-fault-of-requires Inv-loop μ-loop Inv-file μ-file
-fault-of-requires c κs = search needs
-
-add-p : tie.Need-add-p Inv-loop μ-loop Inv-file μ-file
-add-p c = search needs
-
-file-less : tie.Need-file-less Inv-loop μ-loop Inv-file μ-file
-file-less c = search needs
 
 file-again : tie.Need-file-again Inv-loop μ-loop Inv-file μ-file
 file-again c =
@@ -215,7 +117,7 @@ returns-2 c =
     let f = c .before .f .given in
     let e : kindAt s (l .file .at) ≡ Refused (f .0 .0) = sym (k .kind-at .ensures) ∙ f .1 in
     left-stopped (st .args .count) (pieces s (st .args .count)) (l .file .list) (f .0 .0) (l .file .at)
-    (stops s (l .file .p) (st .args .count) 0 (f .0 .0) (l .file .at) (take (5 * l .file .p) (l .file .list)) (l .file .at) (take (5 * l .file .p) (l .file .list)) (l .file .inv .3) (l .file .inv .3) e (omega arith) (omega arith))
+    (refused-stays s (l .file .p) (st .args .count) 0 (f .0 .0) (l .file .at) (take (5 * l .file .p) (l .file .list)) (l .file .at) (take (5 * l .file .p) (l .file .list)) (l .file .inv .3) (l .file .inv .3) e (omega arith) (omega arith))
     (kind-numbered s (l .file .at) (f .0 .0) e)
     (l .file .inv .2)
 
@@ -230,7 +132,7 @@ returns-3 c =
     let i = l .loop .inv in
     let e : coordinateAt s (l .loop .at) ≡ Refused (f .0 .0) = sym (k .coordinate-at .ensures) ∙ f .1 in
     left-stopped (st .args .count) (pieces s (st .args .count)) (l .loop .list) (f .0 .0) (l .loop .at)
-    (stops s (o .file .p) (st .args .count) (l .loop .c) (f .0 .0) (o .file .at) (take (5 * o .file .p) (o .file .list)) (l .loop .at) (take (5 * o .file .p + l .loop .c) (l .loop .list)) (o .file .inv .3) (i .4) (coordinate-stands s (l .loop .c) (l .loop .at) (i .0) ∙ e) (omega arith) (omega arith))
+    (refused-stays s (o .file .p) (st .args .count) (l .loop .c) (f .0 .0) (o .file .at) (take (5 * o .file .p) (o .file .list)) (l .loop .at) (take (5 * o .file .p + l .loop .c) (l .loop .list)) (o .file .inv .3) (i .4) (coordinate-stands s (l .loop .c) (l .loop .at) (i .0) ∙ e) (omega arith) (omega arith))
     (coordinate-numbered s (l .loop .at) (f .0 .0) e)
     (i .3)
 
@@ -260,39 +162,39 @@ pieces-spec =
     Inv-file
     μ-file
     file-holds
-    mul-first
-    kind-at-requires
-    enum-known-f
-    enum-known-v
-    mul-v
-    element-set-from-v
+    (λ c. search needs)
+    (λ c κs. search needs)
+    (λ c. search needs)
+    (λ c. search needs)
+    (λ c. search needs)
+    (λ c. search needs)
     loop-holds
-    coordinate-at-requires
-    enum-known-f-2
-    enum-known-v-2
-    add-v
-    mul-v-2
-    element-set-from-v-2
-    add-c
-    loop-less
+    (λ c κs. search needs)
+    (λ c. search needs)
+    (λ c. search needs)
+    (λ c. search needs)
+    (λ c. search needs)
+    (λ c. search needs)
+    (λ c. search needs)
+    (λ c. search needs)
     loop-again
-    mul-fault-of
-    element-copy-out-fault-of
-    add-fault-of
-    mul-fault-of-2
-    element-copy-out-fault-of-2
-    add-fault-of-2
-    mul-fault-of-3
-    element-copy-out-fault-of-3
-    add-fault-of-3
-    mul-fault-of-4
-    element-copy-out-fault-of-4
-    add-fault-of-4
-    mul-fault-of-5
-    element-copy-out-fault-of-5
-    fault-of-requires
-    add-p
-    file-less
+    (λ c. search needs)
+    (λ c. search needs)
+    (λ c. search needs)
+    (λ c. search needs)
+    (λ c. search needs)
+    (λ c. search needs)
+    (λ c. search needs)
+    (λ c. search needs)
+    (λ c. search needs)
+    (λ c. search needs)
+    (λ c. search needs)
+    (λ c. search needs)
+    (λ c. search needs)
+    (λ c. search needs)
+    (λ c κs. search needs)
+    (λ c. search needs)
+    (λ c. search needs)
     file-again
     returns
     returns-2

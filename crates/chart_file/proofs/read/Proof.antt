@@ -1,7 +1,7 @@
 -- `read`: each return stands at the reading that the tests before it lead to.
 use borrow.Author.Needs.{needs}
-use mathlib.Core.Path.{_≡_, refl, sym, ap, _∙_}
-use Prim.Native.Nat.{ℕ, _*_, _≤_, _<_}
+use mathlib.Core.Path.{sym, _∙_}
+use Prim.Native.Nat.{_*_}
 use native.Mathlib.Omega.{arith}
 use lib.ListN.{length, getD, take}
 use lib.Seq.{length-take-le}
@@ -10,18 +10,12 @@ use Rattle.chart_file.proofs.Whole.{too-little, no-count, too-many, som
 use Rattle.chart_file.proofs.read.Statement.{statement}
 use Rattle.chart_file.proofs.read.Tie as tie
 
-refused-requires : tie.Need-refused-requires
-refused-requires c κs = search needs
-
 returns : tie.Need-returns
 returns c =
     let a = c .before .before .before .args in
     answers-refusal (a .file .now) (a .list .now) (c .refused .result) 8 0
     (too-little (a .file .now) (length (a .list .now)) (c .before .if1 .taken))
     (c .refused .ensures)
-
-refused-requires-2 : tie.Need-refused-requires-2
-refused-requires-2 c κs = search needs
 
 returns-2 : tie.Need-returns-2
 returns-2 c =
@@ -31,14 +25,8 @@ returns-2 c =
     (no-count (a .file .now) (length (a .list .now)) (e .if1 .left) (c .before .if2 .taken))
     (c .refused2 .ensures)
 
-shared-slice-read-count : tie.Need-shared-slice-read-count
-shared-slice-read-count c = search needs
-
 cast-count : tie.Need-cast-count
 cast-count c = omega (arith, c .shared-slice-known2 .given 0)
-
-refused-requires-3 : tie.Need-refused-requires-3
-refused-requires-3 c κs = search needs
 
 returns-3 : tie.Need-returns-3
 returns-3 c =
@@ -47,12 +35,6 @@ returns-3 c =
     answers-refusal (a .file .now) (a .list .now) (c .refused3 .result) 3 0
     (too-many (a .file .now) (length (a .list .now)) (e .if1 .left) (omega arith) (c .before .if3 .taken))
     (c .refused3 .ensures)
-
-pieces-requires : tie.Need-pieces-requires
-pieces-requires c κs = search needs
-
-refused-requires-4 : tie.Need-refused-requires-4
-refused-requires-4 c κs = search needs
 
 returns-4 : tie.Need-returns-4
 returns-4 c =
@@ -65,9 +47,6 @@ returns-4 c =
     (some-pieces s (length (a .list .now)) (e .if1 .left) (omega arith) (q .before .before .if3 .left)
     ∙ ended-refused n (pieces s n) (q .pieces .result) (q .pieces .last .1 .1 .0) (length s) (q .pieces .ensures) (c .before .if4 .taken))
     (c .refused4 .ensures)
-
-refused-requires-5 : tie.Need-refused-requires-5
-refused-requires-5 c κs = search needs
 
 returns-5 : tie.Need-returns-5
 returns-5 c =
@@ -87,20 +66,11 @@ slice-aggregate-put c =
     let s = q .before .before .before .before .before .before .before .args .file .now in
     sym (left-length (getD s 0 0) (pieces s (getD s 0 0)) (q .pieces .result) (q .pieces .last .1 .1 .0) (q .pieces .ensures))
 
-mul-put : tie.Need-mul-put
-mul-put c = search needs
-
 put-requires : tie.Need-put-requires
 put-requires c κs =
     let q = c .before .before .before .before in
     let s = q .before .before .before .before .before .before .before .args .file .now in
     omega (arith, left-length (getD s 0 0) (pieces s (getD s 0 0)) (q .pieces .result) (q .pieces .last .1 .1 .0) (q .pieces .ensures))
-
-done-requires : tie.Need-done-requires
-done-requires c κs = search needs
-
-same-length : tie.Need-same-length
-same-length c = search needs
 
 returns-6 : tie.Need-returns-6
 returns-6 c =
@@ -123,22 +93,22 @@ pub read-spec : {M : Type 1} → statement M
 read-spec =
     tie.close
     (tie.spec
-    refused-requires
+    (λ c κs. search needs)
     returns
-    refused-requires-2
+    (λ c κs. search needs)
     returns-2
-    shared-slice-read-count
+    (λ c. search needs)
     cast-count
-    refused-requires-3
+    (λ c κs. search needs)
     returns-3
-    pieces-requires
-    refused-requires-4
+    (λ c κs. search needs)
+    (λ c κs. search needs)
     returns-4
-    refused-requires-5
+    (λ c κs. search needs)
     returns-5
     slice-aggregate-put
-    mul-put
+    (λ c. search needs)
     put-requires
-    done-requires
-    same-length
+    (λ c κs. search needs)
+    (λ c. search needs)
     returns-6)

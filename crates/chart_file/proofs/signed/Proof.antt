@@ -23,9 +23,6 @@ half v h = toZ-pos w32 (omega arith)
 fits : (v : ℕ) → v < 2 ^ 32 → SFits w32 (negsuc 0 -ℤ toZ w32 (v / 2))
 fits v h = rw (half v h, below) (record { sfits = omega arith })
 
-cast-half : tie.Need-cast-half
-cast-half c = search needs
-
 sub-result : tie.Need-sub-result
 sub-result c = fits (c .before .args .v) (c .before .fits .v .fits)
 
@@ -41,4 +38,4 @@ returns-2 c =
     rw (ne-eqb _ _ (c .if1 .left)) (toZ-ofZ {w = w32} (fits v h) ∙ ap (λ (z : ℤ). negsuc 0 -ℤ z) (half v h) ∙ below (v / 2))
 
 pub signed-spec : {M : Type 1} → statement M
-signed-spec = tie.close (tie.spec cast-half sub-result returns returns-2)
+signed-spec = tie.close (tie.spec (λ c. search needs) sub-result returns returns-2)
