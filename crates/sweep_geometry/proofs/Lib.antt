@@ -12,3 +12,5 @@ pub mod Aligned
 pub mod Supply
 pub mod Promises
 pub mod FirstCommon
+mod Examples
+pub mod Accepted

@@ -1,7 +1,9 @@
 -- What is promised of the sweep on pieces with integer ends.
 use mathlib.Core.Path.{_≡_}
 use mathlib.Core.Bool.{true, false}
+use mathlib.Core.List.{List}
 use Prim.Native.Nat.{ℕ, _<_}
+use lib.IntN.{ℤ}
 use Rattle.fractions.specs.Point.{pointOrder}
 use Rattle.fractions.specs.declared.Order.the-variants.{Greater}
 use Rattle.fractions.specs.declared.Point.{Point}
@@ -9,6 +11,9 @@ use Rattle.line_segment.specs.declared.LineSegment.{LineSegment}
 use Rattle.line_segment.specs.Piece.{HasLength, closed}
 use Rattle.line_segment.specs.Geometry.{Common}
 use Rattle.line_segment.specs.Demand.{OnChart}
+use Rattle.charts.specs.Chart.{verdictOf}
+use Rattle.charts.specs.Piece.{pieceAt, noUpright}
+use Rattle.charts.specs.declared.Verdict.the-variants.{Accepted}
 use Rattle.sweep.specs.Lists.{Pair}
 use Rattle.sweep.specs.Chart.{meets, kind}
 use Rattle.sweep.specs.Sought.{first}
@@ -35,6 +40,11 @@ PortedSweeps = (n : ℕ) (piece : ℕ → LineSegment) → AllProper n piece →
 -- where an upright piece has the height of the point visited, on every chart
 abbrev pub FullSweeps : Type 0
 FullSweeps = (n : ℕ) (piece : ℕ → LineSegment) → AllProper n piece → Promises (full n piece)
+
+-- the same of every accepted list of numbers with no upright piece
+abbrev pub ListSweeps : Type 0
+ListSweeps =
+    (list : List ℤ) (n : ℕ) → verdictOf list ≡ Accepted n → noUpright list n ≡ true → Promises (ported n (pieceAt list))
 
 -- "the least point of the common part with its ends added, included or not"
 pub record LeastCommon (a b : LineSegment) (p : Point) : Type 0 where

@@ -1,0 +1,74 @@
+-- The pieces of an accepted list are proper; where its test for upright pieces finds none, none is.
+use mathlib.Core.Path.{_≡_, refl, sym, ap, _∙_, subst}
+use mathlib.Core.Logic.{_⊎_, inl, inr, ⊎-elim}
+use mathlib.Core.Bool.{Bool, true, false, cond}
+use mathlib.Core.List.{List}
+use Prim.Native.Nat.{ℕ, _<_}
+use native.Mathlib.Omega.{arith}
+use lib.IntN.{ℤ, pos, negℤ}
+use Rattle.integers.specs.Size.{Small}
+use Rattle.integers.proofs.Order.{≮→≥, <→≢}
+use Rattle.integers.proofs.Sizes.{small-of}
+use Rattle.fractions.specs.Order.{order}
+use Rattle.fractions.specs.declared.Order.{Order}
+use Rattle.fractions.specs.declared.Order.the-variants.{Less, Equal, Greater}
+use Rattle.fractions.proofs.Orders.{Answer, is-less, is-equal, is-greater, answer}
+use Rattle.line_segment.specs.declared.EndPoint.{EndPoint}
+use Rattle.line_segment.specs.declared.LineSegment.{LineSegment}
+use Rattle.line_segment.specs.Piece.{endOrder, joinBy, joinOf, pieceOf}
+use Rattle.line_segment.specs.Demand.{OnChart}
+use Rattle.charts.specs.Fault.{range, outside, eqZ}
+use Rattle.charts.specs.Chart.{verdictOf}
+use Rattle.charts.specs.Piece.{coordinateOf, pieceAt, noUpright}
+use Rattle.charts.specs.Piece.{isUpright as upright}
+use Rattle.charts.specs.declared.Verdict.the-variants.{Accepted}
+use Rattle.charts.proofs.Rows.{says-outside, says-eq}
+use Rattle.charts.proofs.Accepted.{pieces-have-length}
+use Rattle.charts.proofs.Upright.{upright-found}
+use Rattle.sweep.specs.Ported.{isEqual, isUpright}
+use Rattle.sweep.proofs.Tests.{ask, clash}
+use Rattle.sweep_geometry.specs.Demand.{AllProper, NoneUpright, ListSweeps}
+use Rattle.sweep_geometry.proofs.Asked.{Asked}
+use Rattle.sweep_geometry.proofs.Promises.{ported-sweeps}
+
+small : (v : ℤ) → Small 32767 (coordinateOf v)
+unfolding coordinateOf
+small v =
+    ⊎-elim
+    (λ (e : outside (negℤ range) range v ≡ true). rw e (record { small = omega arith }))
+    (λ (e : outside (negℤ range) range v ≡ false).
+    rw e (small-of (≮→≥ (λ h. says-outside (negℤ range) range v .no e (inl h))) (≮→≥ (λ h. says-outside (negℤ range) range v .no e (inr h)))))
+    (ask (outside (negℤ range) range v))
+
+join-on : (o : Order) (a b : EndPoint) → Small 32767 (a .x) → Small 32767 (a .y) → Small 32767 (b .x) → Small 32767 (b .y) → OnChart (joinBy o a b)
+unfolding joinBy
+join-on Less a b ax ay bx by = record { min-x = ax; min-y = ay; max-x = bx; max-y = by }
+join-on Equal a b ax ay bx by = record { min-x = bx; min-y = by; max-x = ax; max-y = ay }
+join-on Greater a b ax ay bx by = record { min-x = bx; min-y = by; max-x = ax; max-y = ay }
+
+piece-on : (list : List ℤ) (i : ℕ) → OnChart (pieceAt list i)
+unfolding pieceAt pieceOf joinOf
+piece-on list i = join-on _ _ _ (small _) (small _) (small _) (small _)
+
+pub list-proper : (list : List ℤ) (n : ℕ) → verdictOf list ≡ Accepted n → AllProper n (pieceAt list)
+list-proper list n e i h = record { length = pieces-have-length list n i e h; charted = piece-on list i }
+
+-- the two tests for an upright piece
+upright-yes : (s : LineSegment) → isUpright s ≡ true → upright s ≡ true
+unfolding isUpright upright
+upright-yes s e = go (answer (s .min .x) (s .max .x)) e
+  where
+    go : {o : Order} → Answer (s .min .x) (s .max .x) o → isEqual o ≡ true → eqZ (s .min .x) (s .max .x) ≡ true
+    go (is-less h) e = clash e refl
+    go (is-equal h) e = ⊎-elim (λ (t : eqZ (s .min .x) (s .max .x) ≡ true). t) (λ (t : eqZ (s .min .x) (s .max .x) ≡ false). absurd (says-eq (s .min .x) (s .max .x) .no t h)) (ask (eqZ (s .min .x) (s .max .x)))
+    go (is-greater h) e = clash e refl
+
+pub list-flat : (list : List ℤ) (n : ℕ) → noUpright list n ≡ true → NoneUpright n (pieceAt list)
+list-flat list n e i h =
+    ⊎-elim
+    (λ (t : isUpright (pieceAt list i) ≡ true). clash e (upright-found list i n h (upright-yes (pieceAt list i) t)))
+    (λ (t : isUpright (pieceAt list i) ≡ false). t)
+    (ask (isUpright (pieceAt list i)))
+
+pub list-sweeps : Asked → ListSweeps
+list-sweeps T list n e f = ported-sweeps T n (pieceAt list) (list-proper list n e) (list-flat list n f)
