@@ -6,6 +6,7 @@ use Rattle.fractions.proofs.Points.{point-itself, point-turned, point-t
 use Rattle.fractions.proofs.LowestTerms.{lowest-lowest, lowest-same, lowest-bounded, whole-lowest, whole-bounded, one-record}
 use Rattle.fractions.proofs.compare.Reads as compare
 use Rattle.fractions.proofs.compare_points.Reads as compare-points
+use Rattle.fractions.proofs.compare_ratios.Reads as compare-ratios
 use Rattle.fractions.proofs.gcd.Reads as gcd
 use Rattle.fractions.proofs.lowest.Reads as lowest
 use Rattle.fractions.proofs.whole.Reads as whole
@@ -25,6 +26,9 @@ compare-one κs a x y s t p q = p ∙ sym q
 
 compare-points-one : OneResult compare-points.Post
 compare-points-one κs a x y s t p q = p ∙ sym q
+
+compare-ratios-one : OneResult compare-ratios.Post
+compare-ratios-one κs a x y s t p q = p ∙ sym q
 
 gcd-one : OneResult gcd.Post
 gcd-one κs a x y s t p q = p ∙ sym q

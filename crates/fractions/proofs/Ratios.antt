@@ -15,7 +15,7 @@ use Rattle.fractions.specs.declared.Order.the-variants.{Less, Equal}
 use Rattle.fractions.proofs.Orders.{Answer, is-less, is-equal, is-greater, answer, order-less, order-equal, order-greater, less-order, equal-order, order-turned}
 
 -- a factor above 0 on both sides
-order-scaled : (a b c : ℤ) → pos 0 <ℤ c → order a b ≡ order (a *ℤ c) (b *ℤ c)
+pub order-scaled : (a b c : ℤ) → pos 0 <ℤ c → order a b ≡ order (a *ℤ c) (b *ℤ c)
 order-scaled a b c p = go (answer a b)
   where
     go : {o : Order} → Answer a b o → o ≡ order (a *ℤ c) (b *ℤ c)

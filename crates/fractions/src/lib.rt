@@ -114,7 +114,7 @@ fn turn(o: Order) -> Order
 }
 
 // x over d against y over e.
-fn compare_ratios(x: i64, d: u64, y: i64, e: u64) -> Order
+pub fn compare_ratios(x: i64, d: u64, y: i64, e: u64) -> Order
     ensures { λ r. ⌜ r ≡ ratioOrder x d y e ⌝ }
 {
     compare(ratio(x, d), ratio(y, e))

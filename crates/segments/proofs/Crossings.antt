@@ -22,7 +22,7 @@ use Rattle.sweep.specs.Lists.{Pair}
 use Rattle.sweep.specs.Chart.{same, at}
 use Rattle.sweep.specs.Ported.{isLess, isEqual}
 use Rattle.sweep_arrays.specs.Numbers.{pairOf, crossing-before, crossing-at}
-use Rattle.sweep_geometry.proofs.Comparisons.{order-scaled}
+use Rattle.fractions.proofs.Ratios.{order-scaled}
 use Rattle.segments.specs.Table.{pieceIn, chartIn, roughAt}
 use Rattle.segments.proofs.Answers.{neither-less}
 

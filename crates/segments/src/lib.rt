@@ -1,12 +1,14 @@
 // The pieces of a chart as the sweep asks for them, by number, after the Rust's Segment. They stand in one array, five
 // numbers a piece: min's x and y, max's x and y, and the marks of both. Past its end every number is 0.
 // End 2i is the min of piece i, end 2i + 1 its max; pair MOST * i + j is that of pieces i and j.
+mod heights;
+
 ghost use mathlib.Core.Path.{_≡_};
 ghost use Prim.Native.Nat.{ℕ, _+_, _*_, _/_, _%_};
 ghost use Rattle.fractions.specs.Point.{pointOrder};
-ghost use Rattle.line_segment.specs.Segment.{intersectOf};
+ghost use Rattle.line_segment.specs.Segment.{intersectOf, containsOf};
 ghost use Rattle.sweep.specs.Chart.{at};
-ghost use Rattle.sweep.specs.Ported.{isLess, isEqual};
+ghost use Rattle.sweep.specs.Ported.{isLess, isEqual, rankOrder};
 ghost use Rattle.sweep_arrays.specs.Numbers.{pairOf, endOf, end-before, end-at, crossing-before, crossing-at};
 ghost use Rattle.segments.specs.Table.{numberIn, pieceIn, chartIn, roughAt};
 use charts::MOST;
@@ -170,4 +172,28 @@ pub fn test(table: &[i16], i: u8, j: u8) -> Meeting
     ensures { λ r. ⌜ r ≡ intersectOf (pieceIn (now (table .entry)) i) (pieceIn (now (table .entry)) j) ⌝ }
 {
     line_segment::intersect(piece(table, i as u16), piece(table, j as u16))
+}
+
+// Piece i has the point p.
+pub fn contains(table: &[i16], i: u8, p: Point) -> bool
+    ensures { λ r. ⌜ r ≡ containsOf (pieceIn (now (table .entry)) i) p ⌝ }
+{
+    line_segment::contains(piece(table, i as u16), p)
+}
+
+// Piece i comes before piece j in the active list at p: by height, then slope, then number.
+pub fn before(table: &[i16], p: Point, i: u8, j: u8) -> bool
+    ensures { λ r. ⌜ r ≡ isLess (rankOrder (pieceIn (now (table .entry))) p i j) ⌝ }
+{
+    let a = piece(table, i as u16);
+    let b = piece(table, j as u16);
+    match heights::height_order(p, a, b) {
+        Order::Less => true,
+        Order::Equal => match heights::slope_order(a, b) {
+            Order::Less => true,
+            Order::Equal => i < j,
+            Order::Greater => false,
+        },
+        Order::Greater => false,
+    }
 }
