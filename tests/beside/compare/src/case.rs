@@ -12,6 +12,13 @@ pub struct Case {
 }
 
 impl Case {
+  fn new(chart: &Chart) -> Case {
+    Case {
+      chart: chart.clone(),
+      original: Original::new(chart),
+    }
+  }
+
   /// Every two pieces, in both orders.
   pub fn pairs(&self) -> impl Iterator<Item = Pair> + use<> {
     let n = self.chart.len();
@@ -26,10 +33,7 @@ impl Case {
 
 /// Compares every answer about one chart; the first difference is told.
 pub fn check(chart: &Chart) -> Result<(), String> {
-  let case = Case {
-    chart: chart.clone(),
-    original: Original::new(chart),
-  };
+  let case = Case::new(chart);
   orient::compare(&case)?;
   segment::compare(&case)?;
   place::compare(&case)?;
@@ -39,6 +43,11 @@ pub fn check(chart: &Chart) -> Result<(), String> {
   sweep::compare(&case)?;
   refusals::compare(&case)?;
   file::compare(&case)
+}
+
+/// Compares how the pieces of a chart meet, and nothing else.
+pub fn check_meetings(chart: &Chart) -> Result<(), String> {
+  segment::compare(&Case::new(chart))
 }
 
 /// Ok where `theirs`, the answer of `whose`, is the Rust's.

@@ -36,8 +36,13 @@ impl Random {
   }
 }
 
-/// A piece of one kind with ends in the 3 by 3 grid has 9 * 9 * 4 numbers, 9 * 8 * 4 of them pieces.
-const TINY_PIECES: usize = 288;
+/// How many pieces have their ends in a grid of `side` by `side` points, all kinds.
+const fn grid_pieces(side: usize) -> usize {
+  let points = side * side;
+  points * (points - 1) * 4
+}
+
+const TINY_PIECES: usize = grid_pieces(3);
 pub const TINY_CHARTS: usize = 1 + TINY_PIECES + TINY_PIECES * TINY_PIECES;
 
 /// Every chart of up to two pieces with coordinates 0 to 2.
@@ -47,20 +52,39 @@ pub fn tiny(index: usize) -> Chart {
   }
   let index = index - 1;
   if index < TINY_PIECES {
-    return vec![tiny_piece(index)];
+    return vec![grid_piece(3, index)];
   }
-  let index = index - TINY_PIECES;
+  pair_on_grid(3, index - TINY_PIECES)
+}
+
+pub const GRID_PAIRS: usize = grid_pieces(4) * grid_pieces(4);
+
+/// Every two pieces with coordinates 0 to 3.
+pub fn grid_pair(index: usize) -> Chart {
+  pair_on_grid(4, index)
+}
+
+fn pair_on_grid(side: usize, index: usize) -> Chart {
+  let pieces = grid_pieces(side);
   vec![
-    tiny_piece(index / TINY_PIECES),
-    tiny_piece(index % TINY_PIECES),
+    grid_piece(side, index / pieces),
+    grid_piece(side, index % pieces),
   ]
 }
 
-fn tiny_piece(index: usize) -> Piece {
+fn grid_piece(side: usize, index: usize) -> Piece {
   let (kind, ends) = (index % 4, index / 4);
-  let (first, skipped) = (ends / 8, ends % 8);
+  let others = side * side - 1;
+  let (first, skipped) = (ends / others, ends % others);
   let second = skipped + usize::from(skipped >= first);
-  [kind, first / 3, first % 3, second / 3, second % 3].map(|v| v as i32)
+  [
+    kind,
+    first / side,
+    first % side,
+    second / side,
+    second % side,
+  ]
+  .map(|v| v as i32)
 }
 
 /// Coordinates -3 to 3, up to 12 pieces.

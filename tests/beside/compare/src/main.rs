@@ -36,12 +36,15 @@ use charts::Random;
 
 const GATE_SEED: u64 = 1;
 
-/// Charts of one temper: how many, and the one of each index.
+/// Charts of one temper: how many, the one of each index, and what is compared on each.
 struct Family {
   name: &'static str,
   count: usize,
   chart: Box<dyn Fn(usize) -> Chart + Sync>,
+  check: Check,
 }
+
+type Check = fn(&Chart) -> Result<(), String>;
 
 fn main() -> ExitCode {
   let words: Vec<String> = std::env::args().skip(1).collect();
@@ -90,6 +93,7 @@ fn gate() -> Vec<Family> {
   vec![
     kept(),
     tiny(),
+    grid_pairs(),
     random("degenerate", GATE_SEED, 17_000, charts::degenerate),
     random("extreme", GATE_SEED, 3_000, charts::extreme),
     random("near-tied", GATE_SEED, 2_000, charts::near_ties),
@@ -114,6 +118,7 @@ fn kept() -> Family {
     name: "kept",
     count: charts.len(),
     chart: Box::new(move |i| charts[i].clone()),
+    check: case::check,
   }
 }
 
@@ -122,6 +127,16 @@ fn tiny() -> Family {
     name: "tiny",
     count: charts::TINY_CHARTS,
     chart: Box::new(charts::tiny),
+    check: case::check,
+  }
+}
+
+fn grid_pairs() -> Family {
+  Family {
+    name: "grid-pair",
+    count: charts::GRID_PAIRS,
+    chart: Box::new(charts::grid_pair),
+    check: case::check_meetings,
   }
 }
 
@@ -130,6 +145,7 @@ fn random(name: &'static str, seed: u64, count: usize, make: fn(&mut Random) -> 
     name,
     count,
     chart: Box::new(move |i| make(&mut Random::new(seed, i))),
+    check: case::check,
   }
 }
 
@@ -144,7 +160,7 @@ fn first_wrong(family: &Family) -> Option<Chart> {
         return;
       }
       let chart = (family.chart)(i);
-      if fault(&chart).is_some() {
+      if fault(family.check, &chart).is_some() {
         *wrong.lock().unwrap() = Some(chart);
       }
     }
@@ -159,18 +175,18 @@ fn first_wrong(family: &Family) -> Option<Chart> {
 }
 
 /// What differs on the chart, or none. A panic on either side is a difference.
-fn fault(chart: &Chart) -> Option<String> {
-  match panic::catch_unwind(|| case::check(chart)) {
+fn fault(check: Check, chart: &Chart) -> Option<String> {
+  match panic::catch_unwind(|| check(chart)) {
     Ok(told) => told.err(),
     Err(_) => Some("a panic".to_string()),
   }
 }
 
 fn tell(family: &Family, chart: Chart) {
-  let smallest = shrink::smallest(chart, |c| fault(c).is_some());
+  let smallest = shrink::smallest(chart, |c| fault(family.check, c).is_some());
   println!("compare: a {} chart differs; shrunk to", family.name);
   for [kind, x1, y1, x2, y2] in &smallest {
     println!("  ({x1},{y1})-({x2},{y2}) kind {kind}");
   }
-  println!("in {}", fault(&smallest).unwrap_or_default());
+  println!("in {}", fault(family.check, &smallest).unwrap_or_default());
 }
