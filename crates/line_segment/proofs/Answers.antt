@@ -1,15 +1,14 @@
 -- What the parts of the test answer, from what a branch of the code knows.
-use mathlib.Core.Path.{_≡_, refl, sym, ap, _∙_}
-use mathlib.Core.Bool.{Bool, true, false, cond, _&&_}
+use mathlib.Core.Path.{_≡_, refl, sym, _∙_}
+use mathlib.Core.Bool.{Bool, true, false, _&&_}
 use Rattle.orientation.specs.declared.Orientation.{Orientation}
 use Rattle.orientation.specs.Turn.{isStraight}
 use Rattle.fractions.specs.declared.Order.{Order}
-use Rattle.fractions.specs.declared.Order.the-variants.{Less, Equal, Greater}
+use Rattle.fractions.specs.declared.Order.the-variants.{Equal}
 use Rattle.fractions.specs.declared.Point.{Point}
 use Rattle.fractions.specs.Point.{pointOrder}
 use Rattle.line_segment.specs.declared.EndPoint.{EndPoint}
 use Rattle.line_segment.specs.declared.LineSegment.{LineSegment}
-use Rattle.line_segment.specs.declared.Meeting.{Meeting}
 use Rattle.line_segment.specs.declared.Meeting.the-variants.{Nothing, Crossing, Overlap}
 use Rattle.line_segment.specs.Piece.{pointOf, joinOf}
 use Rattle.line_segment.specs.Geometry.{admits}

@@ -1,6 +1,6 @@
 -- The order of two pairs of numbers, and of two ends by their coordinates.
-use mathlib.Core.Path.{_≡_, refl, sym, _∙_}
-use lib.IntN.{ℤ, pos, _*ℤ_}
+use mathlib.Core.Path.{_≡_, sym}
+use lib.IntN.{ℤ}
 use lib.Signed.{_≤ℤ_, _<ℤ_}
 use Rattle.integers.proofs.Ring.{*ℤ-idr}
 use Rattle.integers.proofs.Order.{≤-antisym}

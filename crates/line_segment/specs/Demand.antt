@@ -5,15 +5,14 @@ use mathlib.Core.Bool.{Bool, true, false}
 use Prim.Native.Nat.{_<_}
 use lib.IntN.{pos}
 use Rattle.integers.specs.Size.{Small}
-use Rattle.fractions.specs.declared.Order.the-variants.{Less, Equal, Greater}
 use Rattle.fractions.specs.declared.Point.{Point}
-use Rattle.fractions.specs.Point.{Lowest, Bounded, pointOrder}
+use Rattle.fractions.specs.Point.{Lowest, Bounded}
 use Rattle.line_segment.specs.declared.LineSegment.{LineSegment}
 use Rattle.line_segment.specs.declared.Meeting.{Meeting}
 use Rattle.line_segment.specs.declared.Meeting.the-variants.{Nothing, Crossing, Overlap}
 use Rattle.line_segment.specs.Piece.{HasLength, pointOf, closed}
 use Rattle.line_segment.specs.Geometry.{side, LiesOn, Common, OneLine}
-use Rattle.line_segment.specs.Segment.{intersectOf, containsOf, cramerOf, crossingOf}
+use Rattle.line_segment.specs.Segment.{intersectOf, containsOf, crossingOf}
 
 abbrev pub saysYes : Meeting → Bool
 saysYes Nothing = false

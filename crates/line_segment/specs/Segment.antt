@@ -1,6 +1,6 @@
 -- The test of two pieces by the Rust's cases, in the Rust's order, and Cramer's point.
-use mathlib.Core.Bool.{Bool, true, false, cond, _&&_}
-use Prim.Native.Nat.{ℕ, suc, _^_}
+use mathlib.Core.Bool.{Bool, cond, _&&_}
+use Prim.Native.Nat.{suc, _^_}
 use lib.Dec.{ltb}
 use lib.IntN.{ℤ, pos, negsuc, natAbs, negℤ, _-ℤ_, _*ℤ_}
 use Rattle.orientation.specs.Turn.{det, turnOf, reversed, isStraight, sameTurn}

@@ -1,13 +1,11 @@
 -- The turn that a sign says, and the sign that a turn says.
 use mathlib.Core.Path.{_≡_, refl}
-use Prim.Native.Nat.{ℕ, zero, suc}
+use Prim.Native.Nat.{zero, suc}
 use native.Mathlib.Nat.{not-suc-le-zero}
-use native.Mathlib.Omega.{arith}
 use lib.Dec.{leb→le, ltb→lt}
 use lib.IntN.{ℤ, pos, negsuc}
 use lib.Signed.{_≤ℤ_, _<ℤ_}
 use Rattle.orientation.specs.Turn.{turnOf}
-use Rattle.orientation.specs.declared.Orientation.{Orientation}
 use Rattle.orientation.specs.declared.Orientation.the-variants.{CounterClockWise, ClockWise, CoLinear}
 
 pub turn-above : {z : ℤ} → pos 0 <ℤ z → turnOf z ≡ CounterClockWise

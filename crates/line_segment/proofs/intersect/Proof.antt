@@ -1,7 +1,6 @@
 -- `line_segment::intersect` meets its contract: each branch knows how the ends of b lie to a.
 use borrow.Author.Needs.{needs}
-use mathlib.Core.Path.{_∙_, sym, ap}
-use Rattle.line_segment.specs.declared.Meeting.{Meeting}
+use mathlib.Core.Path.{_∙_, sym}
 use Rattle.line_segment.proofs.Answers.{both-on, min-on, max-on, none-on}
 use Rattle.line_segment.proofs.intersect.Statement.{statement}
 use Rattle.line_segment.proofs.intersect.Tie as tie

@@ -1,6 +1,6 @@
 -- `line_segment::leftmost` meets its contract: each arm knows the order of the ends.
 use borrow.Author.Needs.{needs}
-use mathlib.Core.Path.{_∙_, sym, ap}
+use mathlib.Core.Path.{_∙_}
 use Rattle.line_segment.specs.Segment.{leftmostOf, leftBy}
 use Rattle.line_segment.proofs.leftmost.Statement.{statement}
 use Rattle.line_segment.proofs.leftmost.Tie as tie

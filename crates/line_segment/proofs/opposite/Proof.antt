@@ -1,7 +1,6 @@
 -- `line_segment::opposite` meets its contract: the one turn is the other reversed.
 use borrow.Author.Needs.{needs}
-use mathlib.Core.Path.{_∙_, ap}
-use Rattle.orientation.specs.Turn.{sameTurn}
+use mathlib.Core.Path.{_∙_}
 use Rattle.line_segment.specs.Segment.{opposed}
 use Rattle.line_segment.proofs.opposite.Statement.{statement}
 use Rattle.line_segment.proofs.opposite.Tie as tie

@@ -1,7 +1,5 @@
 -- `line_segment::holds::in_bounds` meets its contract: three tests, one after the other.
 use borrow.Author.Needs.{needs}
-use mathlib.Core.Path.{_∙_, ap}
-use lib.IntN.{natAbs}
 use mir.Syntax.{w64}
 use mir.ValLaws.{toZ-ofZ}
 use Rattle.line_segment.proofs.Holding.{bounds-last, wide-x, wide-d}

@@ -1,5 +1,5 @@
 -- Laws of a point that lies on a piece: its ends, its inside, the ends counted in, and the same point written otherwise.
-use mathlib.Core.Path.{_≡_, refl, sym, ap, ap₂, _∙_}
+use mathlib.Core.Path.{_≡_, refl, sym, ap, _∙_}
 use mathlib.Core.Logic.{⊎-elim}
 use mathlib.Core.Bool.{Bool, true, false, _&&_}
 use mathlib.Core.List.{[], _∷_}
@@ -14,12 +14,12 @@ use Rattle.fractions.specs.declared.Order.the-variants.{Less, Equal, Greater}
 use Rattle.fractions.specs.declared.Point.{Point}
 use Rattle.fractions.specs.Point.{pointOrder}
 use Rattle.fractions.proofs.Points.{Places, same, places, point-itself, point-alike, point-alike′}
 use Rattle.line_segment.specs.declared.EndPoint.{EndPoint}
 use Rattle.line_segment.specs.declared.LineSegment.{LineSegment}
 use Rattle.line_segment.specs.Piece.{pointOf, endOrder, joinBy, joinOf, HasLength, closed}
 use Rattle.line_segment.specs.Geometry.{run, rise, side, admits, LiesOn}
 use Rattle.line_segment.specs.Segment.{moment, within, innerBetween}
-use Rattle.meetings.proofs.Sides.{side-line, line, even, min-on, max-on}
+use Rattle.line_segment.proofs.Sides.{side-line, line, min-on, max-on}
 
 pub whole : (e : EndPoint) → 0 < pointOf e .d
 unfolding pointOf

@@ -1,20 +1,18 @@
 -- The side of a line on which a point lies, as a linear function of the point; what two lines have to do with one another.
-use mathlib.Core.Path.{_≡_, refl, sym, ap, ap₂, _∙_}
+use mathlib.Core.Path.{_≡_, sym, ap, _∙_}
 use mathlib.Core.Logic.{⊎-elim}
 use mathlib.Core.List.{[], _∷_}
-use Prim.Native.Nat.{ℕ, suc}
-use lib.IntN.{ℤ, pos, negsuc, negℤ, _+ℤ_, _-ℤ_, _*ℤ_, -ℤ-+ℤ-cancel, +ℤ-idl}
+use lib.IntN.{ℤ, pos, _+ℤ_, _-ℤ_, _*ℤ_, -ℤ-+ℤ-cancel, +ℤ-idl}
 use Rattle.integers.proofs.Identity.{by-ring, terms}
 use Rattle.integers.proofs.Factors.{zero-product}
 use Rattle.fractions.specs.Point.{pointOrder}
 use Rattle.fractions.specs.declared.Order.the-variants.{Equal}
 use Rattle.fractions.specs.declared.Point.{Point}
 use Rattle.fractions.proofs.Points.{placed, same}
-use Rattle.line_segment.specs.declared.EndPoint.{EndPoint}
 use Rattle.line_segment.specs.declared.LineSegment.{LineSegment}
 use Rattle.line_segment.specs.Piece.{pointOf}
 use Rattle.line_segment.specs.Geometry.{run, rise, side}
-use Rattle.line_segment.specs.Segment.{moment, over, cramerOf}
+use Rattle.line_segment.specs.Segment.{moment}
 
 -- ---- by run, rise and moment
 abbrev pub line : LineSegment → ℤ → ℤ → ℤ → ℤ
@@ -87,4 +85,3 @@ module _ (a b : LineSegment) where
         placed (same
         (even _ _ tilt ne (across₀ (run a) (rise a) (moment a) (run b) (rise b) (moment b) (p .x) (p .y) (pos (p .d)) (q .x) (q .y) (pos (q .d)) ∙ nil (run a) (run b) (pos (p .d)) (pos (q .d)) h′ g′ f′ e′))
         (even _ _ tilt ne (up₀ (run a) (rise a) (moment a) (run b) (rise b) (moment b) (p .x) (p .y) (pos (p .d)) (q .x) (q .y) (pos (q .d)) ∙ nil (rise a) (rise b) (pos (p .d)) (pos (q .d)) h′ g′ f′ e′)))
-

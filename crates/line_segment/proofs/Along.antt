@@ -1,27 +1,24 @@
 -- Along the line of a piece the order of points is that of their distances from its ends, measured along it.
 -- `past s p` is how far p lies past the min, `short s p` how far short of the max, both times D and the piece's length.
-use mathlib.Core.Path.{_≡_, refl, sym, ap, ap₂, _∙_, subst}
+use mathlib.Core.Path.{_≡_, sym, ap, _∙_, subst}
 use mathlib.Core.List.{[], _∷_}
-use mathlib.Core.Logic.{_⊎_, inl, inr, ⊎-elim}
-use Prim.Native.Nat.{ℕ, _<_}
-use native.Mathlib.Omega.{arith}
+use mathlib.Core.Logic.{⊎-elim}
 use lib.IntN.{ℤ, pos, negℤ, _+ℤ_, _-ℤ_, _*ℤ_}
-use lib.Signed.{_≤ℤ_, _<ℤ_}
+use lib.Signed.{_<ℤ_}
 use Rattle.integers.proofs.Identity.{by-ring, terms}
-use Rattle.integers.proofs.Signs.{<-diff, n+p, p+n, p+p, p*p, sq}
+use Rattle.integers.proofs.Signs.{<-diff, n+p, p+n, p*p, sq}
 use Rattle.integers.proofs.Order.{<-cert, <→≢}
 use Rattle.integers.proofs.Factors.{p/p, m/p, p*m, zero-product}
 use Rattle.fractions.specs.declared.Order.{Order}
-use Rattle.fractions.specs.declared.Order.the-variants.{Less, Equal, Greater}
+use Rattle.fractions.specs.declared.Order.the-variants.{Less}
 use Rattle.fractions.specs.declared.Point.{Point}
 use Rattle.fractions.specs.Order.{order}
 use Rattle.fractions.specs.Point.{pointOrder}
 use Rattle.fractions.proofs.Orders.{order-less, order-equal, order-greater}
 use Rattle.fractions.proofs.Points.{Places, left, below, same, above, right, places}
-use Rattle.line_segment.specs.declared.EndPoint.{EndPoint}
 use Rattle.line_segment.specs.declared.LineSegment.{LineSegment}
 use Rattle.line_segment.specs.Piece.{pointOf, endOrder, HasLength}
 use Rattle.line_segment.specs.Geometry.{run, rise, side}
 
 -- ---- a piece of some length leads to the right, or straight up
 pub data Leads (s : LineSegment) : Type 0 where

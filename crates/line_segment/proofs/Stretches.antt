@@ -1,6 +1,6 @@
 -- Two pieces of one line: their common part runs from the rightmost min to the leftmost max.
 use mathlib.Core.Path.{_≡_, refl, sym, ap, ap₂, _∙_, subst}
-use mathlib.Core.Logic.{_↔_, _⊎_, inl, inr, ⊎-elim}
+use mathlib.Core.Logic.{_⊎_, inl, inr}
 use mathlib.Core.Bool.{Bool, true, false, cond, _&&_}
 use mathlib.Core.List.{[], _∷_}
 use Prim.Native.Nat.{ℕ, _<_}
@@ -13,22 +13,20 @@ use Rattle.integers.proofs.Order.{<-cert}
 use Rattle.fractions.specs.declared.Order.{Order}
 use Rattle.fractions.specs.declared.Order.the-variants.{Less, Equal, Greater}
 use Rattle.fractions.specs.declared.Point.{Point}
-use Rattle.fractions.specs.Order.{turned}
 use Rattle.fractions.specs.Point.{pointOrder}
-use Rattle.fractions.proofs.Points.{Places, left, below, same, places, placed, point-itself, point-turned, point-alike, point-alike′, less-at-most, at-most-less, at-most-trans}
+use Rattle.fractions.proofs.Points.{Places, left, below, places, placed, point-itself, less-at-most, at-most-less, at-most-trans}
 use Rattle.line_segment.specs.declared.EndPoint.{EndPoint}
 use Rattle.line_segment.specs.declared.LineSegment.{LineSegment}
-use Rattle.line_segment.specs.declared.Meeting.{Meeting}
-use Rattle.line_segment.specs.declared.Meeting.the-variants.{Nothing, Crossing, Overlap}
-use Rattle.line_segment.specs.Piece.{pointOf, endOrder, HasLength, closed}
+use Rattle.line_segment.specs.declared.Meeting.the-variants.{Nothing, Overlap}
+use Rattle.line_segment.specs.Piece.{pointOf, endOrder, HasLength}
 use Rattle.line_segment.specs.Geometry.{run, rise, side, admits, LiesOn, Common, OneLine}
 use Rattle.line_segment.specs.Segment.{moment, rightmostOf, leftmostOf, stretchBy, stretchOf}
 use Rattle.line_segment.specs.Demand.{saysYes, Meet, CommonPart}
-use Rattle.meetings.proofs.Sides.{side-line, min-on, max-on}
-use Rattle.meetings.proofs.Along.{leads}
-use Rattle.meetings.proofs.Lying.{whole, both, same-side, not-after, closed-of, closed-line, closed-from, closed-upto}
-use Rattle.meetings.proofs.TwoLines.{carried, one-line-turned}
-use Rattle.meetings.proofs.Picking.{from-both, upto-both, rightmost-is, leftmost-is, rightmost-turned, leftmost-turned, rightmost-after, leftmost-before}
+use Rattle.line_segment.proofs.Sides.{side-line, min-on, max-on}
+use Rattle.line_segment.proofs.Along.{leads}
+use Rattle.line_segment.proofs.Lying.{whole, both, same-side, not-after, closed-of, closed-line, closed-from, closed-upto}
+use Rattle.line_segment.proofs.TwoLines.{carried, one-line-turned}
+use Rattle.line_segment.proofs.Picking.{from-both, upto-both, rightmost-is, leftmost-is, rightmost-turned, leftmost-turned, rightmost-after, leftmost-before}
 
 -- ---- the middle of two points
 middle : EndPoint → EndPoint → Point
@@ -137,13 +135,13 @@ module _ (a b : LineSegment) (la : HasLength a) (lb : HasLength b) (o : OneLine 
       go Less q e = (
         middle (stretch a b .min) (stretch a b .max),
         spanned-common _ (omega arith)
-        (record { line = middle-on a _ _ min-line max-line; from = rw (before-middle _ _ q); upto = rw (middle-before _ _ q) }),
+            (record { line = middle-on a _ _ min-line max-line; from = rw (before-middle _ _ q); upto = rw (middle-before _ _ q) }),
       )
       go Equal q e =
           let i = both (inc (stretch a b .max .included && stretch a b .min .included) e) in (
             pointOf (stretch a b .min),
             spanned-common _ (whole (stretch a b .min))
-            (record { line = min-line; from = rw (point-itself (pointOf (stretch a b .min))) (i .1); upto = rw q (i .0) }),
+                (record { line = min-line; from = rw (point-itself (pointOf (stretch a b .min))) (i .1); upto = rw q (i .0) }),
           )
       go Greater q e = clash e
 
@@ -263,9 +261,9 @@ module _ (a b : LineSegment) (la : HasLength a) (lb : HasLength b) (o : OneLine 
             second = closed-of b _ (there _ max-line) (chain (b .min) (stretch a b .min) (stretch a b .max) from-b run-on) upto-b;
           };
           ends = λ p c.
-            closed-of (stretch a b) p (of-line p (closed-line a p (c .first)))
-            (one-from p (rightmost-is (a .min) (b .min)) (closed-from a p (c .first)) (closed-from b p (c .second)))
-            (one-upto p (leftmost-is (a .max) (b .max)) (closed-upto a p (c .first)) (closed-upto b p (c .second)));
+              closed-of (stretch a b) p (of-line p (closed-line a p (c .first)))
+              (one-from p (rightmost-is (a .min) (b .min)) (closed-from a p (c .first)) (closed-from b p (c .second)))
+              (one-upto p (leftmost-is (a .max) (b .max)) (closed-upto a p (c .first)) (closed-upto b p (c .second)));
         }
       where
         one-from : {e : EndPoint} (p : Point) → (e ≡ a .min) ⊎ (e ≡ b .min) → ¬ (pointOrder (pointOf (a .min)) p ≡ Greater) → ¬ (pointOrder (pointOf (b .min)) p ≡ Greater) → ¬ (pointOrder (pointOf e) p ≡ Greater)

@@ -11,11 +11,11 @@ use Rattle.fractions.specs.Order.{turned}
 use Rattle.fractions.specs.Point.{pointOrder}
 use Rattle.integers.proofs.Ring.{*ℤ-idr}
 use Rattle.fractions.proofs.Points.{Places, same, places, point-itself, point-turned, point-alike, point-alike′, less-at-most, at-most-less}
 use Rattle.line_segment.specs.declared.EndPoint.{EndPoint}
 use Rattle.line_segment.specs.Piece.{pointOf, endOrder}
 use Rattle.line_segment.specs.Geometry.{admits}
 use Rattle.line_segment.specs.Segment.{exclusiveOf, rightBy, rightmostOf, leftBy, leftmostOf}
-use Rattle.meetings.proofs.Lying.{whole, not-after}
+use Rattle.line_segment.proofs.Lying.{whole, not-after}
 
 never : {A : Type 0} → true ≡ false → A
 never e = absurd (let z : _≡_ {A = ℕ} 0 1 = cc in omega arith)

@@ -1,38 +1,37 @@
 -- What line_segment's specs/Demand.antt promises of the test of two pieces, kept.
-use mathlib.Core.Path.{_≡_, refl, sym, ap, _∙_, subst}
+use mathlib.Core.Path.{_≡_, refl, sym, ap, _∙_}
 use mathlib.Core.Logic.{_⊎_, inl, inr, ⊎-elim}
 use mathlib.Core.Bool.{Bool, true, false, cond, _&&_}
-use Prim.Native.Nat.{ℕ, _<_}
+use Prim.Native.Nat.{ℕ}
 use native.Mathlib.Omega.{arith}
 use lib.IntN.{ℤ, pos}
-use lib.Signed.{_<ℤ_}
 use Rattle.integers.proofs.Order.{<→≢, Tri, less, same, more, tri}
 use Rattle.orientation.specs.Turn.{turnOf, isStraight}
 use Rattle.orientation.proofs.Signs.{turn-above, turn-below, turn-neither}
 use Rattle.fractions.specs.declared.Order.{Order}
 use Rattle.fractions.specs.declared.Order.the-variants.{Less, Equal, Greater}
 use Rattle.fractions.specs.declared.Point.{Point}
-use Rattle.fractions.specs.Point.{Lowest, Bounded, pointOrder}
+use Rattle.fractions.specs.Point.{pointOrder}
 use Rattle.fractions.specs.Order.{turned as turnedOrder}
 use Rattle.fractions.proofs.Points.{point-turned, point-alike}
 use Rattle.fractions.proofs.Promises.{orders-points}
 use Rattle.line_segment.specs.declared.EndPoint.{EndPoint}
 use Rattle.line_segment.specs.declared.LineSegment.{LineSegment}
 use Rattle.line_segment.specs.declared.Meeting.{Meeting}
 use Rattle.line_segment.specs.declared.Meeting.the-variants.{Nothing, Crossing, Overlap}
 use Rattle.line_segment.specs.Piece.{pointOf, endOrder, HasLength}
-use Rattle.line_segment.specs.Geometry.{side, LiesOn, Common, OneLine}
-use Rattle.line_segment.specs.Segment.{innerBetween, stretchBy, stretchOf, touchOf, intersectOf, inBounds, containsOf, cramerOf, crossingOf}
-use Rattle.line_segment.specs.Demand.{saysYes, saysOverlap, Meet, SaysYesExactly, OverlapExactly, SameWhicheverAsks, OnlyPoint, CrossingIsCramers, OverlapEnds, ContainsExactly}
+use Rattle.line_segment.specs.Geometry.{side, Common, OneLine}
+use Rattle.line_segment.specs.Segment.{stretchBy, stretchOf, intersectOf, inBounds, containsOf, cramerOf, crossingOf}
+use Rattle.line_segment.specs.Demand.{saysYes, saysOverlap, Meet, SaysYesExactly, OverlapExactly, SameWhicheverAsks, CrossingIsCramers, OverlapEnds, ContainsExactly}
 use Rattle.line_segment.proofs.Holding.{in-bounds, holds-between}
-use Rattle.meetings.proofs.Sides.{tilt, one-point}
-use Rattle.meetings.proofs.CramersPoint.{cramer-first, cramer-second, cramer-positive, crossing-swapped, crossing-lowest, crossing-same}
-use Rattle.meetings.proofs.Along.{leads}
-use Rattle.meetings.proofs.Lying.{whole, both, same-lies, End, end-on, lies-between, between-lies}
-use Rattle.meetings.proofs.TwoLines.{level, one-line-turned, Opposite, down, up, OneSided, above, below, outside}
-use Rattle.meetings.proofs.Cases.{Case, aligned, touched, touching, astride, second-aside, first-aside, cases}
-use Rattle.meetings.proofs.Crossings.{touch-lies, lies-touch, touch-plain, astride-tilted, astride-common}
-use Rattle.meetings.proofs.Stretches.{stretch-turned, stretch-meets, meets-stretch, overlap-part}
+use Rattle.line_segment.proofs.Sides.{tilt, one-point}
+use Rattle.line_segment.proofs.CramersPoint.{cramer-first, cramer-second, cramer-positive, crossing-swapped, crossing-lowest, crossing-same}
+use Rattle.line_segment.proofs.Along.{leads}
+use Rattle.line_segment.proofs.Lying.{whole, both, same-lies, End, end-on, lies-between, between-lies}
+use Rattle.line_segment.proofs.TwoLines.{level, one-line-turned, OneSided, above, below, outside}
+use Rattle.line_segment.proofs.Cases.{Case, aligned, touched, touching, astride, second-aside, first-aside, cases}
+use Rattle.line_segment.proofs.Crossings.{touch-lies, lies-touch, touch-plain, astride-tilted, astride-common}
+use Rattle.line_segment.proofs.Stretches.{stretch-turned, stretch-meets, meets-stretch, overlap-part}
 
 clash : {A : Type 0} → false ≡ true → A
 clash e = absurd (let z : _≡_ {A = ℕ} 0 1 = cc in omega arith)
@@ -230,6 +229,7 @@ zero-straight z e = ap (λ (w : ℤ). isStraight (turnOf w)) e ∙ ap isStraight
 
 pub contains-exactly : ContainsExactly
 unfolding containsOf
-contains-exactly s p l d h =
-    ((λ e. let k = both (both {x = inBounds p} e .1) in between-lies s l p (straight-zero (side s p) (k .0)) (k .1)),
-    (λ on. sym (holds-between s p (in-bounds p h) (zero-straight (side s p) (on .line)) (sym (lies-between s l p on)))))
+contains-exactly s p l d h = (
+  (λ e. let k = both (both {x = inBounds p} e .1) in between-lies s l p (straight-zero (side s p) (k .0)) (k .1)),
+  (λ on. sym (holds-between s p (in-bounds p h) (zero-straight (side s p) (on .line)) (sym (lies-between s l p on)))),
+)

@@ -1,31 +1,25 @@
 -- Two pieces of lines that are not parallel: they meet where the lines do, if that point lies on both.
-use mathlib.Core.Path.{_≡_, refl, sym, ap, ap₂, _∙_, subst}
+use mathlib.Core.Path.{_≡_, refl, sym, _∙_}
 use mathlib.Core.Bool.{Bool, true, false, cond, _&&_}
-use mathlib.Core.List.{[], _∷_}
-use Prim.Native.Nat.{ℕ, _<_}
-use native.Mathlib.Omega.{arith}
-use lib.IntN.{ℤ, pos, _-ℤ_}
-use lib.Signed.{_<ℤ_}
-use Rattle.integers.proofs.Identity.{by-ring, terms}
-use Rattle.integers.proofs.Signs.{<-diff}
+use Prim.Native.Nat.{_<_}
+use lib.IntN.{ℤ, pos}
 use Rattle.integers.proofs.Order.{<-trans, <→≢}
 use Rattle.fractions.specs.declared.Order.the-variants.{Equal}
 use Rattle.fractions.specs.declared.Point.{Point}
 use Rattle.fractions.specs.Point.{pointOrder}
 use Rattle.line_segment.specs.declared.EndPoint.{EndPoint}
 use Rattle.line_segment.specs.declared.LineSegment.{LineSegment}
-use Rattle.line_segment.specs.declared.Meeting.{Meeting}
-use Rattle.line_segment.specs.declared.Meeting.the-variants.{Nothing, Crossing, Overlap}
+use Rattle.line_segment.specs.declared.Meeting.the-variants.{Nothing, Crossing}
 use Rattle.line_segment.specs.Piece.{pointOf, HasLength}
 use Rattle.line_segment.specs.Geometry.{side, LiesOn, Common}
 use Rattle.line_segment.specs.Segment.{innerBetween, touchOf, cramerOf}
 use Rattle.line_segment.specs.Demand.{saysYes, saysOverlap}
 use Rattle.line_segment.proofs.Answers.{touch-yes}
-use Rattle.meetings.proofs.Sides.{tilt, tilt-second, alike}
-use Rattle.meetings.proofs.CramersPoint.{cramer-first, cramer-second, cramer-positive}
-use Rattle.meetings.proofs.Along.{leads}
-use Rattle.meetings.proofs.Lying.{whole, both, same-lies, lies-inside, End, end-on, end-lies, end-included, lies-between, between-lies}
-use Rattle.meetings.proofs.TwoLines.{Opposite, down, up, inside}
+use Rattle.line_segment.proofs.Sides.{tilt, tilt-second, alike}
+use Rattle.line_segment.proofs.CramersPoint.{cramer-first, cramer-second, cramer-positive}
+use Rattle.line_segment.proofs.Along.{leads}
+use Rattle.line_segment.proofs.Lying.{whole, both, same-lies, lies-inside, End, end-lies, end-included, lies-between, between-lies}
+use Rattle.line_segment.proofs.TwoLines.{Opposite, down, up, inside}
 
 -- ---- an end e of t on the line of s, where the two lines have no other common point
 module _ (s t : LineSegment) (ls : HasLength s) (lt : HasLength t) {e : EndPoint} (end : End t e) (on : side s (pointOf e) ≡ pos 0)

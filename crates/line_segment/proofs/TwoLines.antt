@@ -1,7 +1,7 @@
 -- Two lines: when they are one, and where a common point lies between the ends of a piece.
-use mathlib.Core.Path.{_≡_, refl, sym, ap, ap₂, _∙_, subst}
-use mathlib.Core.Logic.{_⊎_, inl, inr, ⊎-elim}
-use mathlib.Core.Bool.{Bool, true, false}
+use mathlib.Core.Path.{_≡_, sym, ap, _∙_, subst}
+use mathlib.Core.Logic.{⊎-elim}
+use mathlib.Core.Bool.{Bool, true}
 use mathlib.Core.List.{[], _∷_}
 use Prim.Native.Nat.{ℕ, _<_}
 use native.Mathlib.Omega.{arith}
@@ -13,17 +13,15 @@ use Rattle.integers.proofs.Order.{<-cert, <→≢, ≡→≤, neg-<, Tri, less,
 use Rattle.integers.proofs.Factors.{p/p, zero-product}
 use Rattle.integers.proofs.Naturals.{pos-<}
 use Rattle.fractions.specs.declared.Order.{Order}
-use Rattle.fractions.specs.declared.Order.the-variants.{Less, Equal, Greater}
+use Rattle.fractions.specs.declared.Order.the-variants.{Less}
 use Rattle.fractions.specs.declared.Point.{Point}
 use Rattle.fractions.specs.Point.{pointOrder}
-use Rattle.fractions.specs.Order.{order}
 use Rattle.fractions.proofs.Orders.{Answer, is-less, is-equal, is-greater, answer, order-less}
-use Rattle.line_segment.specs.declared.EndPoint.{EndPoint}
 use Rattle.line_segment.specs.declared.LineSegment.{LineSegment}
-use Rattle.line_segment.specs.Piece.{pointOf, closed}
+use Rattle.line_segment.specs.Piece.{pointOf}
 use Rattle.line_segment.specs.Geometry.{run, rise, side, admits, LiesOn, OneLine}
-use Rattle.meetings.proofs.Sides.{tilt, tilt-first, tilt-second}
-use Rattle.meetings.proofs.Along.{Leads, rightward, upward, past, short, past-order, short-order, past-short, length², length-positive, weighed}
+use Rattle.line_segment.proofs.Sides.{tilt, tilt-first, tilt-second}
+use Rattle.line_segment.proofs.Along.{Leads, rightward, upward, past, short, past-order, short-order, past-short, length², length-positive, weighed}
 
 -- ---- one line
 -- a point on the line of b is on that of a

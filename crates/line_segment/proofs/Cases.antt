@@ -2,29 +2,27 @@
 use mathlib.Core.Path.{_≡_, refl, sym, ap, ap₂, _∙_, subst}
 use mathlib.Core.List.{[], _∷_}
 use mathlib.Core.Bool.{Bool, true, false}
-use Prim.Native.Nat.{ℕ}
-use native.Mathlib.Omega.{arith}
-use lib.IntN.{ℤ, pos, _+ℤ_, _-ℤ_, _*ℤ_}
+use lib.IntN.{ℤ, pos, _+ℤ_, _-ℤ_}
 use lib.Signed.{_<ℤ_}
 use Rattle.integers.proofs.Ring.{*ℤ-idr}
 use Rattle.integers.proofs.Identity.{by-ring, terms}
 use Rattle.integers.proofs.Order.{Tri, less, same, more, tri, <→≢}
 use Rattle.orientation.specs.declared.Orientation.{Orientation}
 use Rattle.orientation.specs.declared.Orientation.the-variants.{CounterClockWise, ClockWise, CoLinear}
-use Rattle.orientation.specs.Turn.{det, turnOf, reversed, isStraight, sameTurn}
+use Rattle.orientation.specs.Turn.{det, turnOf}
 use Rattle.orientation.proofs.Signs.{turn-above, turn-below, turn-neither}
 use Rattle.line_segment.specs.declared.EndPoint.{EndPoint}
 use Rattle.line_segment.specs.declared.LineSegment.{LineSegment}
 use Rattle.line_segment.specs.declared.Meeting.{Meeting}
-use Rattle.line_segment.specs.declared.Meeting.the-variants.{Nothing, Crossing, Overlap}
+use Rattle.line_segment.specs.declared.Meeting.the-variants.{Nothing, Crossing}
 use Rattle.line_segment.specs.Piece.{pointOf, HasLength}
 use Rattle.line_segment.specs.Geometry.{run, rise, side, OneLine}
 use Rattle.line_segment.specs.Segment.{stretchOf, touchOf, turnTo, opposed, astrideOf, intersectOf}
 use Rattle.line_segment.proofs.Answers.{both-on, min-on, max-on, none-on, own-min-on, own-max-on, crossed, not-astride, one-side}
-use Rattle.meetings.proofs.Sides.{tilt, tilt-first, tilt-second}
-use Rattle.meetings.proofs.Along.{leads}
-use Rattle.meetings.proofs.Lying.{End, the-min, the-max}
-use Rattle.meetings.proofs.TwoLines.{one-line-turned, Opposite, down, up, OneSided, above, below}
+use Rattle.line_segment.proofs.Sides.{tilt, tilt-first, tilt-second}
+use Rattle.line_segment.proofs.Along.{leads}
+use Rattle.line_segment.proofs.Lying.{End, the-min, the-max}
+use Rattle.line_segment.proofs.TwoLines.{one-line-turned, Opposite, down, up, OneSided, above, below}
 
 pub data Case (a b : LineSegment) : Meeting → Type 0 where
   aligned : OneLine a b → Case a b (stretchOf a b)

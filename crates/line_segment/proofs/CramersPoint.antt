@@ -1,7 +1,7 @@
 -- Cramer's point: on both lines, over a positive number, the same whichever piece asks, and within document 01's bounds.
 use mathlib.Core.Path.{_≡_, refl, sym, ap, _∙_}
 use mathlib.Core.List.{[], _∷_}
-use Prim.Native.Nat.{ℕ, zero, suc, _<_, _≤_, _^_}
+use Prim.Native.Nat.{zero, suc, _<_, _^_}
 use native.Mathlib.Omega.{arith}
 use lib.IntN.{ℤ, pos, negsuc, natAbs, negℤ, negℤ-negℤ, _+ℤ_, _-ℤ_, _*ℤ_}
 use Rattle.integers.proofs.Identity.{by-ring, terms}
@@ -14,12 +14,12 @@ use Rattle.fractions.specs.Point.{Lowest, Bounded, lowestOf, pointOrder}
 use Rattle.fractions.specs.declared.Order.the-variants.{Equal}
 use Rattle.fractions.proofs.Promises.{lowest-terms}
 use Rattle.fractions.proofs.Quotient.{same-record}
 use Rattle.line_segment.specs.declared.LineSegment.{LineSegment}
 use Rattle.line_segment.specs.Geometry.{run, rise, side}
 use Rattle.line_segment.specs.Segment.{moment, over, cramerOf, crossingOf}
 use Rattle.line_segment.specs.Demand.{OnChart, CrossingStaysBounded}
 use Rattle.line_segment.proofs.CramersRule.{over-same}
-use Rattle.meetings.proofs.Sides.{line, side-line, tilt}
+use Rattle.line_segment.proofs.Sides.{line, side-line, tilt}
 
 -- ---- X, Y over D, turned where D is below 0
 turned₀ : (u v m x y d : ℤ) → u *ℤ negℤ y -ℤ v *ℤ negℤ x +ℤ m *ℤ negℤ d ≡ negℤ (u *ℤ y -ℤ v *ℤ x +ℤ m *ℤ d)

@@ -1,1 +1,0 @@
-// No code: what line_segment promises of the test of two pieces is proved in proofs/.
