@@ -4,7 +4,7 @@ use mathlib.Core.Path.{_≡_, refl, sym, ap, ap₂, subst, _∙_}
 use mathlib.Core.Bool.{Bool, true, false, not}
 use mathlib.Core.Logic.{_⊎_, inl, inr}
 use Prim.Native.Nat.{ℕ, zero, suc, _+_, _*_, _^_, _<_, _≤_, zero-le, suc-le-suc}
-use native.Mathlib.Nat.{le-trans, le-of-eq, le-of-lt, mul-right-comm, add-mul, mul-one, one-mul, mul-pos, zero-mul, mul-le-mul-right, le-of-mul-le-mul-right}
+use native.Mathlib.Nat.{le-trans, le-of-eq, mul-right-comm, add-mul, mul-one, one-mul, mul-pos, zero-mul, mul-le-mul-right, le-of-mul-le-mul-right}
 use native.Mathlib.Omega.{arith}
 use lib.Dec.{T, lit<, lit≤}
 use lib.IntN.{ℤ, pos, negsuc, natAbs, _*ℤ_}
@@ -122,12 +122,12 @@ no-negative-zero (negsuc n) d p h l = of-value (negsuc n) d p h NoNegativeZero b
         first-pos m (up e) (first-pos (m * up e) one (rw v (mul-pos some (down-pos e))))
 
 -- ---- what is promised
-pub near : (z : ℤ) (d : ℕ) → 0 < d → d < 2 ^ 33 → natAbs z ≤ 2 ^ 15 * d → Near (nearest z d) z d
+pub near : (z : ℤ) (d : ℕ) → 0 < d → d ≤ 2 ^ 53 → natAbs z ≤ 2 ^ 15 * d → Near (nearest z d) z d
 near z d p l h = record {
   is-nearest = refl;
   none-nearer = none-nearer z d p h;
   within = within z d p h;
-  no-negative-zero = no-negative-zero z d p h (le-trans (le-of-lt l) (pow-mono {i = 33} {j = 1074} (lit≤ tt)));
+  no-negative-zero = no-negative-zero z d p h (le-trans l (pow-mono {i = 53} {j = 1074} (lit≤ tt)));
 }
 
 exactly : (z : ℤ) → natAbs z ≤ 2 ^ 15 → Exactly (nearest z 1) z

@@ -1,11 +1,14 @@
 // The place of a meeting: nothing, at a point, or along from one point to another.
 ghost use mathlib.Core.Path.{_≡_};
-ghost use Prim.Native.Nat.{_<_, _^_};
+ghost use Prim.Native.Nat.{_<_, _≤_, _^_};
 ghost use lib.IntN.{natAbs};
-ghost use Rattle.fractions.specs.Point.{Bounded};
 ghost use Rattle.place.specs.Binary64.{nearest};
-ghost use Rattle.place.specs.Place.{nearestPoint};
+ghost use Rattle.place.specs.Pair.{placeAnswerOf};
+ghost use Rattle.place.specs.Place.{alongOf, whereOf, placeOf, Held, nearestPoint};
+use charts::Verdict;
 use fractions::Point;
+use line_segment::LineSegment;
+use line_segment::Meeting;
 
 // A point in binary64.
 pub struct PlacePoint {
@@ -13,20 +16,96 @@ pub struct PlacePoint {
     pub y: f64,
 }
 
-// Both numbers are small enough for binary64 to hold them, so only the division rounds.
+// Where two pieces meet, exactly.
+pub enum Where {
+    Nothing,
+    At(Point),
+    Along(Point, Point),
+}
+
+// The same in binary64.
+pub enum Place {
+    Nothing,
+    At(PlacePoint),
+    Along(PlacePoint, PlacePoint),
+}
+
+// What the pair call answers: the number and the place of a refusal, zero where it is done, and
+// the place of the meeting.
+pub struct PlaceAnswer {
+    pub number: u8,
+    pub place: usize,
+    pub meeting: Place,
+}
+
+// The stretch of an overlap, from its min to its max, whatever its marks.
+fn along(s: LineSegment) -> Where
+    ensures { λ r. ⌜ r ≡ alongOf s ⌝ }
+{
+    let from = s.min;
+    let to = s.max;
+    Where::Along(
+        fractions::whole(from.x, from.y),
+        fractions::whole(to.x, to.y),
+    )
+}
+
+// Where two pieces meet, by the segment test.
+pub fn exact(a: LineSegment, b: LineSegment) -> Where
+    ensures { λ r. ⌜ r ≡ whereOf a b ⌝ }
+{
+    match line_segment::intersect(a, b) {
+        Meeting::Nothing => Where::Nothing,
+        Meeting::Crossing => Where::At(line_segment::crossing(a, b)),
+        Meeting::Overlap(s) => along(s),
+    }
+}
+
+// Binary64 holds both numbers as they stand, so only the division rounds.
 fn quotient(x: i64, d: u64) -> f64
-    requires { ⌜ (natAbs x < 2 ^ 48) × (0 < d) × (d < 2 ^ 33) ⌝ }
+    requires { ⌜ (natAbs x ≤ 2 ^ 53) × (0 < d) × (d ≤ 2 ^ 53) ⌝ }
     ensures { λ r. ⌜ r ≡ nearest x d ⌝ }
 {
-    x as f64 / d as f64
+    let over = x as f64;
+    let under = d as f64;
+    over / under
 }
 
 fn rounded(p: Point) -> PlacePoint
-    requires { ⌜ (0 < p .d) × Bounded p ⌝ }
+    requires { ⌜ Held p ⌝ }
     ensures { λ r. ⌜ r ≡ nearestPoint p ⌝ }
 {
     PlacePoint {
         x: quotient(p.x, p.d),
         y: quotient(p.y, p.d),
+    }
+}
+
+// The place of the meeting of two pieces.
+pub fn place_of(a: LineSegment, b: LineSegment) -> Place
+    ensures { λ r. ⌜ r ≡ placeOf a b ⌝ }
+{
+    match exact(a, b) {
+        Where::Nothing => Place::Nothing,
+        Where::At(p) => Place::At(rounded(p)),
+        Where::Along(p, q) => Place::Along(rounded(p), rounded(q)),
+    }
+}
+
+// The place of the meeting of two pieces that are given as ten numbers.
+pub fn pair_place(list: &[i32]) -> PlaceAnswer
+    ensures { λ r. ⌜ r ≡ placeAnswerOf (now (list .entry)) ⌝ }
+{
+    match charts::pair_verdict_of(list) {
+        Verdict::Refused(number, place) => PlaceAnswer {
+            number,
+            place,
+            meeting: Place::Nothing,
+        },
+        Verdict::Accepted(_) => PlaceAnswer {
+            number: 0,
+            place: 0,
+            meeting: place_of(charts::piece_at(list, 0), charts::piece_at(list, 1)),
+        },
     }
 }
