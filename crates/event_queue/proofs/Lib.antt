@@ -1,0 +1,3 @@
+pub mod Ordering
+pub mod Nexts
+pub mod Passed
