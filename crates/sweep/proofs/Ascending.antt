@@ -15,11 +15,11 @@ use Rattle.sweep.specs.Sought.{occurring, settle, settled, points}
 use Rattle.sweep.specs.Geometry.{Occurs}
 use Rattle.sweep.proofs.Tests.{ask, ltb-yes, ltb-no}
 use Rattle.sweep.proofs.Lists.{keep-none}
-use Rattle.sweep.proofs.Ranked.{Ranked, less-true, less-false}
+use Rattle.sweep.proofs.Ranked.{Ranked, less-true, less-false, Keyed}
 
 module _ (C : Chart) (F : Ranked C) where
   open Chart C using (Point, less)
-  open Ranked F using (key)
+  open Keyed (F .keyed) using (key)
 
   abbrev Occur : List Point → Type 0
   Occur l = (x : Point) → In x l → Occurs C x
@@ -63,7 +63,7 @@ module _ (C : Chart) (F : Ranked C) where
       (λ (e : less p q ≡ false).
       ⊎-elim
       (λ (d : less q p ≡ true). rw (settle, e, d) (swap (λ k. settle-in p l (skip pl) k) m))
-      (λ (d : less q p ≡ false). rw (settle, e, d) (same (F .key-inj p q op oq (omega (arith, less-false C F p q op oq e, less-false C F q p oq op d))) m))
+      (λ (d : less q p ≡ false). rw (settle, e, d) (same (F .keyed .key-inj p q op oq (omega (arith, less-false C (F .keyed) p q op oq e, less-false C (F .keyed) q p oq op d))) m))
       (ask (less q p)))
       (ask (less p q))
     where
@@ -83,10 +83,10 @@ module _ (C : Chart) (F : Ranked C) where
       let op = pl p (here refl) in
       let oq = pl q (there (here refl)) in
       ⊎-elim
-      (λ (e : less p q ≡ true). rw (settle, e) (λ y m. first (less-true C F p q op oq e) m, u))
+      (λ (e : less p q ≡ true). rw (settle, e) (λ y m. first (less-true C (F .keyed) p q op oq e) m, u))
       (λ (e : less p q ≡ false).
       ⊎-elim
-      (λ (d : less q p ≡ true). rw (settle, e, d) (λ y m. then (less-true C F q p oq op d) (settle-out p l m), settle-up p l (skip pl) (u .1)))
+      (λ (d : less q p ≡ true). rw (settle, e, d) (λ y m. then (less-true C (F .keyed) q p oq op d) (settle-out p l m), settle-up p l (skip pl) (u .1)))
       (λ (d : less q p ≡ false). rw (settle, e, d) u)
       (ask (less q p)))
       (ask (less p q))

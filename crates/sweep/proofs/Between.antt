@@ -13,7 +13,7 @@ use Rattle.sweep.specs.State.{Marks, State}
 use Rattle.sweep.specs.Sought.{first}
 use Rattle.sweep.specs.Geometry.{Occurs}
 use Rattle.sweep.specs.Demand.{Pieces}
-use Rattle.sweep.proofs.Ranked.{Ranked}
+use Rattle.sweep.proofs.Ranked.{Ranked, Keyed}
 use Rattle.sweep.proofs.Neighbours.{CrossAt, neighbours}
 use Rattle.sweep.proofs.First.{first-crosses, pair-kind, pair-at}
 
@@ -41,7 +41,7 @@ module _ (C : Chart) where
 
   module _ (F : Ranked C) where
     open Chart C using (Point, n, min, max, test, crossing, before)
-    open Ranked F using (key)
+    open Keyed (F .keyed) using (key)
 
     -- the pairs listed are those that met below t; those that wait cross at t or later
     pub record Good (t : ℕ) (m : Marks) : Type 0 where

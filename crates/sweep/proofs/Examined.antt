@@ -17,13 +17,13 @@ use Rattle.sweep.proofs.Tests.{ask, or-one, neither, clash}
 use Rattle.sweep.proofs.Pairs.{among-in, among-out}
 use Rattle.sweep.proofs.Sorting.{place-in, place-out}
 use Rattle.sweep.proofs.Occurring.{at-occurs}
-use Rattle.sweep.proofs.Ranked.{Ranked, less-true, less-false}
+use Rattle.sweep.proofs.Ranked.{Ranked, less-true, less-false, Keyed}
 use Rattle.sweep.proofs.First.{kind-cases, two-meet, first-crosses, first-min}
 use Rattle.sweep.proofs.Between.{Known, Good}
 
 module _ (C : Chart) (F : Ranked C) (p : C .Point) (op : Occurs C p) where
   open Chart C using (less, min)
-  open Ranked F using (key)
+  open Keyed (F .keyed) using (key)
 
   -- both pieces have begun
   abbrev pub Begun : Pair → Type 0
@@ -64,8 +64,8 @@ module _ (C : Chart) (F : Ranked C) (p : C .Point) (op : Occurs C p) where
       let f = ap key (first-crosses C q k) in
       let oc = at-occurs C q v k in
       ⊎-elim
-      (λ (l : less p (at C q) ≡ true). inr (examine-else q m a ∙ rw (k, l), k, less-true C F p (at C q) op oc l))
-      (λ (l : less p (at C q) ≡ false). absurd (free (G .full q v me (omega (arith, less-false C F p (at C q) op oc l)))))
+      (λ (l : less p (at C q) ≡ true). inr (examine-else q m a ∙ rw (k, l), k, less-true C (F .keyed) p (at C q) op oc l))
+      (λ (l : less p (at C q) ≡ false). absurd (free (G .full q v me (omega (arith, less-false C (F .keyed) p (at C q) op oc l)))))
       (ask (less p (at C q))))
       (λ (k : kind C q ≡ overlaps).
       absurd

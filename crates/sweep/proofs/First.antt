@@ -14,7 +14,7 @@ use Rattle.sweep.proofs.Tests.{ask, clash, and-both}
 use Rattle.sweep.proofs.Lists.{keep-in, keep-out}
 use Rattle.sweep.proofs.Pairs.{lesser-two, lesser-up}
 use Rattle.sweep.proofs.Occurring.{all-in, all-out, min-occurs, at-occurs}
-use Rattle.sweep.proofs.Ranked.{Ranked, less-true, less-false, same-yes, same-true}
+use Rattle.sweep.proofs.Ranked.{Ranked, less-true, less-false, same-yes, same-true, Keyed}
 
 pub kind-cases : (k : Kind) → (k ≡ nothing) ⊎ ((k ≡ crosses) ⊎ (k ≡ overlaps))
 kind-cases nothing = inl refl
@@ -44,7 +44,7 @@ module _ (C : Chart) where
   first-overlaps q e = rw e
 
   module _ (F : Ranked C) where
-    open Ranked F using (key)
+    open Keyed (F .keyed) using (key)
 
     -- a pair of pieces, whichever comes first
     pub pair-pieces : (a b : ℕ) → a < n → b < n → a ≢ b → Pieces C (lesser-first a b)
@@ -71,8 +71,8 @@ module _ (C : Chart) where
     unfolding later
     later-two p q a b =
         ⊎-elim
-        (λ (e : less p q ≡ true). rw (e, later) (inr refl, omega (arith, less-true C F p q a b e), omega arith))
-        (λ (e : less p q ≡ false). rw (e, later) (inl refl, omega arith, omega (arith, less-false C F p q a b e)))
+        (λ (e : less p q ≡ true). rw (e, later) (inr refl, omega (arith, less-true C (F .keyed) p q a b e), omega arith))
+        (λ (e : less p q ≡ false). rw (e, later) (inl refl, omega arith, omega (arith, less-false C (F .keyed) p q a b e)))
         (ask (less p q))
 
     -- the first common point of an overlap is one of the two mins
@@ -121,7 +121,7 @@ module _ (C : Chart) where
     pub pairs-at-in : (p : Point) → Occurs C p → (q : Pair) → Pieces C q → meets (kind C q) ≡ true → key (first C q) ≡ key p → In q (pairs-at C p)
     unfolding pairs-at
     pairs-at-in p o q v e d =
-        keep-in (λ q. meets (kind C q) && same C (first C q) p) (all-in C q v) (rw (e, same-yes C F (first C q) p (first-occurs q v e) o d))
+        keep-in (λ q. meets (kind C q) && same C (first C q) p) (all-in C q v) (rw (e, same-yes C (F .keyed) (first C q) p (first-occurs q v e) o d))
 
     pub pairs-at-out : (p : Point) → Occurs C p → (q : Pair) → In q (pairs-at C p) → Pieces C q × (meets (kind C q) ≡ true) × (first C q ≡ p)
     unfolding pairs-at
@@ -130,4 +130,4 @@ module _ (C : Chart) where
         let v = all-out C (r .0) in
         let e = and-both (meets (kind C q)) (same C (first C q) p) (r .1) in
         let f = first-occurs q v (e .0) in
-        (v, e .0, F .key-inj (first C q) p f o (same-true C F (first C q) p f o (e .1)))
+        (v, e .0, F .keyed .key-inj (first C q) p f o (same-true C (F .keyed) (first C q) p f o (e .1)))

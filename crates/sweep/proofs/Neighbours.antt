@@ -10,11 +10,12 @@ use Rattle.sweep.specs.Lists.{Pair, lesser-first, adjacent-from, adjacen
 use Rattle.sweep.specs.Chart.{crosses, Chart}
 use Rattle.sweep.specs.Geometry.{Occurs}
 use Rattle.sweep.proofs.Tests.{clash}
-use Rattle.sweep.proofs.Ranked.{Act, Hit, Ranked}
+use Rattle.sweep.proofs.Ranked.{Act, Hit, Ranked, Keyed}
 
 module _ (C : Chart) (F : Ranked C) (p c : C .Point) where
   open Chart C using (n, max, contains, test, crossing, before)
-  open Ranked F using (key, On, Aligned)
+  open Ranked F using (On, Aligned)
+  open Keyed (F .keyed) using (key)
 
   -- two pieces that cross at c, as a member of a list of pairs
   pub record CrossAt (qs : List Pair) : Type 0 where

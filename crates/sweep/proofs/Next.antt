@@ -21,7 +21,7 @@ use Rattle.sweep.specs.Demand.{Pieces}
 use Rattle.sweep.proofs.Tests.{ask, and-both, or-one, or-right, eqb-yes}
 use Rattle.sweep.proofs.Lists.{keep-in, keep-out, any-in, any-out}
 use Rattle.sweep.proofs.Occurring.{End, Crossing, min-in, max-in, ends-out, end-occurs, min-occurs, max-occurs, at-occurs}
-use Rattle.sweep.proofs.Ranked.{Ranked, less-true, less-false, less-yes, same-yes, same-true}
+use Rattle.sweep.proofs.Ranked.{Ranked, less-true, less-false, less-yes, same-yes, same-true, Keyed}
 use Rattle.sweep.proofs.First.{meets-two, first-crosses, first-min}
 use Rattle.sweep.proofs.Between.{which, bound, bound-none, bound-some, Inv, no-crossing}
 
@@ -57,13 +57,13 @@ module _ (C : Chart) where
       )
 
   module _ (F : Ranked C) where
-    open Ranked F using (key)
+    open Keyed (F .keyed) using (key)
 
     lesser : (p q : Point) → Occurs C p → Occurs C q → Occurs C (cond (less q p) q p) × (key (cond (less q p) q p) ≤ key p) × (key (cond (less q p) q p) ≤ key q)
     lesser p q a b =
         ⊎-elim
-        (λ (e : less q p ≡ true). rw e (b, omega (arith, less-true C F q p b a e), omega arith))
-        (λ (e : less q p ≡ false). rw e (a, omega arith, omega (arith, less-false C F q p b a e)))
+        (λ (e : less q p ≡ true). rw e (b, omega (arith, less-true C (F .keyed) q p b a e), omega arith))
+        (λ (e : less q p ≡ false). rw e (a, omega arith, omega (arith, less-false C (F .keyed) q p b a e)))
         (ask (less q p))
 
     least-from-le : (p : Point) (l : List Point) → Occurs C p → ((x : Point) → In x l → Occurs C x) → {x : Point} → In x (p ∷ l) → key (least-from C p l) ≤ key x
@@ -92,7 +92,7 @@ module _ (C : Chart) where
           ⊎-elim
           (λ (e : s .last ≡ none). rw e)
           (λ (e : (l : Point) × (s .last ≡ some l)).
-          rw (e .1) (less-yes C F (e .0) p (I .last-occurs (e .0) (e .1)) o (omega (arith, ap (bound key) (e .1), bound-some key (e .0)))))
+          rw (e .1) (less-yes C (F .keyed) (e .0) p (I .last-occurs (e .0) (e .1)) o (omega (arith, ap (bound key) (e .1), bound-some key (e .0)))))
           (which (s .last))
 
       beyond-true : (p : Point) → Occurs C p → beyond C (s .last) p ≡ true → bound key (s .last) ≤ key p
@@ -101,7 +101,7 @@ module _ (C : Chart) where
           ⊎-elim
           (λ (e : s .last ≡ none). omega (arith, ap (bound key) e, bound-none key))
           (λ (e : (l : Point) × (s .last ≡ some l)).
-          omega (arith, ap (bound key) (e .1), bound-some key (e .0), less-true C F (e .0) p (I .last-occurs (e .0) (e .1)) o (rw (e .1) at h)))
+          omega (arith, ap (bound key) (e .1), bound-some key (e .0), less-true C (F .keyed) (e .0) p (I .last-occurs (e .0) (e .1)) o (rw (e .1) at h)))
           (which (s .last))
 
       pub queue-min : (i : ℕ) → i < n → bound key (s .last) ≤ key (min i) → In (min i) (queue C s)
@@ -179,7 +179,7 @@ module _ (C : Chart) where
             let w = I .good .ahead q (r .1) in
             let o = F .crossing-on (q .0) (q .1) (omega (arith, w .0)) (w .0 .1) (omega (arith, w .0)) (w .1) in
             let oc : Occurs C (at C q) = at-occurs C q (w .0) (w .1) in
-            let d : at C q ≡ p = F .key-inj (at C q) p oc next-occurs (same-true C F (at C q) p oc next-occurs (r .2)) in
+            let d : at C q ≡ p = F .keyed .key-inj (at C q) p oc next-occurs (same-true C (F .keyed) (at C q) p oc next-occurs (r .2)) in
             ⊎-elim
             (λ (g : i ≡ q .0). rw g (subst (λ (x : Point). F .On (q .0) x) d (o .0)))
             (λ (g : i ≡ q .1). rw g (subst (λ (x : Point). F .On (q .1) x) d (o .1)))
@@ -196,8 +196,8 @@ module _ (C : Chart) where
             ⊎-elim
             (λ (r : (starts C p i || finishes C p i) ≡ true).
             ⊎-elim
-            (λ (a : starts C p i ≡ true). rw (← F .key-inj (min i) p (min-occurs C i h) next-occurs (same-true C F (min i) p (min-occurs C i h) next-occurs a)) (F .on-min i h))
-            (λ (a : finishes C p i ≡ true). rw (← F .key-inj (max i) p (max-occurs C i h) next-occurs (same-true C F (max i) p (max-occurs C i h) next-occurs a)) (F .on-max i h))
+            (λ (a : starts C p i ≡ true). rw (← F .keyed .key-inj (min i) p (min-occurs C i h) next-occurs (same-true C (F .keyed) (min i) p (min-occurs C i h) next-occurs a)) (F .on-min i h))
+            (λ (a : finishes C p i ≡ true). rw (← F .keyed .key-inj (max i) p (max-occurs C i h) next-occurs (same-true C (F .keyed) (max i) p (max-occurs C i h) next-occurs a)) (F .on-max i h))
             (or-one (starts C p i) (finishes C p i) r))
             (λ (a : turns C s p i ≡ true). turns-on i a)
             (or-one (starts C p i || finishes C p i) (turns C s p i) r))
@@ -209,10 +209,10 @@ module _ (C : Chart) where
         on-part i h o =
             let r = F .on-range i p h next-occurs o in
             by-cases (ℕ-discrete (key (min i)) (key p))
-            (λ (e : key (min i) ≡ key p). rw (same-yes C F (min i) p (min-occurs C i h) next-occurs e))
+            (λ (e : key (min i) ≡ key p). rw (same-yes C (F .keyed) (min i) p (min-occurs C i h) next-occurs e))
             (λ (e : key (min i) ≢ key p).
             by-cases (ℕ-discrete (key (max i)) (key p))
-            (λ (d : key (max i) ≡ key p). ends-here (or-right (starts C p i) (finishes C p i) (same-yes C F (max i) p (max-occurs C i h) next-occurs d)))
+            (λ (d : key (max i) ≡ key p). ends-here (or-right (starts C p i) (finishes C p i) (same-yes C (F .keyed) (max i) p (max-occurs C i h) next-occurs d)))
             (λ (d : key (max i) ≢ key p).
             let l : key (min i) < bound key (s .last) =
             by-cases (decLt (key (min i)) (bound key (s .last)))

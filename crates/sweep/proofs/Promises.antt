@@ -21,7 +21,7 @@ use Rattle.sweep.proofs.Tests.{ask, ltb-yes, clash}
 use Rattle.sweep.proofs.Lists.{keep-in, keep-out, keep-length, take-in, pairwise-map, pairwise-append, pairwise-keep, pairwise-take}
 use Rattle.sweep.proofs.Pairs.{Sooner, sooner-ne, upto-length}
 use Rattle.sweep.proofs.Occurring.{all-in, all-out, all-sooner, is-crossing-true}
-use Rattle.sweep.proofs.Ranked.{Ranked, ranked, less-true, less-false, less-yes, less-no}
+use Rattle.sweep.proofs.Ranked.{Ranked, ranked, less-true, less-false, less-yes, less-no, Keyed}
 use Rattle.sweep.proofs.First.{two-meet, first-occurs, pairs-at-in, pairs-at-out}
 use Rattle.sweep.proofs.Between.{bound, bound-none, bound-some}
 use Rattle.sweep.proofs.Ascending.{Up, points-in, points-out, points-up, below}
@@ -72,7 +72,7 @@ module _ (C : Chart) where
   is-none-true (some p) e = clash e refl
 
   module _ (F : Ranked C) where
-    open Ranked F using (key)
+    open Keyed (F .keyed) using (key)
 
     abbrev Occur : List Point → Type 0
     Occur l = (x : Point) → In x l → Occurs C x
@@ -107,7 +107,7 @@ module _ (C : Chart) where
         (λ q r a b.
         let d = (pairs-at-out C F p (f p (here refl)) q a) .2 in
         let t = along-out l (λ x k. f x (there k)) r b in
-        inl (rw d (less-yes C F p (first C r) (f p (here refl)) (f (first C r) (there (t .2))) (u .0 (first C r) (t .2)))))
+        inl (rw d (less-yes C (F .keyed) p (first C r) (f p (here refl)) (f (first C r) (there (t .2))) (u .0 (first C r) (t .2)))))
 
     -- the points of a run
     first-points : (m : ℕ) → Occur (take m (points C))
@@ -119,11 +119,11 @@ module _ (C : Chart) where
     -- a point is behind the last one exactly when it was visited
     behind-to : (o : Option Point) → ((l : Point) → o ≡ some l → Occurs C l) → (x : Point) → Occurs C x → key x < bound key o → Behind C o x
     behind-to none f x ox h = absurd (omega (arith, bound-none key))
-    behind-to (some l) f x ox h = less-no C F l x (f l refl) ox (omega (arith, bound-some key l))
+    behind-to (some l) f x ox h = less-no C (F .keyed) l x (f l refl) ox (omega (arith, bound-some key l))
 
     behind-fro : (o : Option Point) → ((l : Point) → o ≡ some l → Occurs C l) → (x : Point) → Occurs C x → Behind C o x → key x < bound key o
     behind-fro none f x ox h = absurd h
-    behind-fro (some l) f x ox h = omega (arith, bound-some key l, less-false C F l x (f l refl) ox h)
+    behind-fro (some l) f x ox h = omega (arith, bound-some key l, less-false C (F .keyed) l x (f l refl) ox h)
 
     visited-behind : (m : ℕ) (x : Point) → Occurs C x → In x (take m (points C)) ↔ Behind C ((run C m) .last) x
     visited-behind m x ox =
@@ -146,7 +146,7 @@ module _ (C : Chart) where
     lists-in-order m = rw (listed-along m) (along-before (take m (points C)) (first-points m) (pairwise-take (λ p q. key p < key q) m (points C) (points-up C F)))
 
     before-ne : (q r : Pair) → Pieces C q → meets (kind C q) ≡ true → Before C q r → q ≢ r
-    before-ne q r v e (inl h) d = let o = first-occurs C F q v e in let k = less-true C F (first C q) (first C q) o o (rw (← d) at h) in omega arith
+    before-ne q r v e (inl h) d = let o = first-occurs C F q v e in let k = less-true C (F .keyed) (first C q) (first C q) o o (rw (← d) at h) in omega arith
     before-ne q r v e (inr (g, h)) d = sooner-ne q r h d
 
     pub lists-once : ListsOnce C
@@ -160,7 +160,7 @@ module _ (C : Chart) where
         record {
           first-of = λ m. (sweeps C F m) .visits;
           all-of = λ p. (λ h. points-out C F h, λ h. points-in C F h);
-          ascending = pairwise-map (λ p q. key p < key q) (λ p q. less p q ≡ true) (points C) (λ p q a b h. less-yes C F p q (points-out C F a) (points-out C F b) h) (points-up C F);
+          ascending = pairwise-map (λ p q. key p < key q) (λ p q. less p q ≡ true) (points C) (λ p q a b h. less-yes C (F .keyed) p q (points-out C F a) (points-out C F b) h) (points-up C F);
         }
 
     pub counts-steps : CountsSteps C

@@ -20,7 +20,7 @@ use Rattle.sweep.proofs.Tests.{ask, clash, and-both, not-true, same-tes
 use Rattle.sweep.proofs.Lists.{keep-yes, keep-no, keep-out, keep-keep, keep-same, pairwise-keep}
 use Rattle.sweep.proofs.Pairs.{both, pairs-keep, among-in, among-no, among-snoc}
 use Rattle.sweep.proofs.Occurring.{all-out, all-once, at-occurs}
-use Rattle.sweep.proofs.Ranked.{Ranked, same-yes, same-true, same-false}
+use Rattle.sweep.proofs.Ranked.{Ranked, same-yes, same-true, same-false, Keyed}
 use Rattle.sweep.proofs.First.{first-on, first-occurs, first-least, pairs-at-in, pairs-at-out}
 use Rattle.sweep.proofs.Between.{bound, Good, Inv}
 use Rattle.sweep.proofs.Next.{next-occurs, next-new, no-wait, no-first, part-on, on-part}
@@ -81,7 +81,7 @@ module _ (C : Chart) where
     waiting-is = rw parts (ap (keep (λ q. not (same C (at C q) p))) (passed .1))
 
     module _ (F : Ranked C) (I : Inv C F s) (hp : next C s ≡ some p) where
-      open Ranked F using (key)
+      open Keyed (F .keyed) using (key)
 
       op : Occurs C p
       op = next-occurs C F s I p hp
@@ -95,7 +95,7 @@ module _ (C : Chart) where
       first-part : (q : Pair) → Pieces C q → meets (kind C q) ≡ true → key (first C q) ≡ key p → part q ≡ true
       first-part q v e d =
           let o = first-on C F q v e in
-          let g : first C q ≡ p = F .key-inj (first C q) p (first-occurs C F q v e) op d in
+          let g : first C q ≡ p = F .keyed .key-inj (first C q) p (first-occurs C F q v e) op d in
           rw (on-part C F s I p hp (q .0) (omega arith) (rw g at (o .0)), on-part C F s I p hp (q .1) (v .1) (rw g at (o .1)))
 
       new-is : (q : Pair) → Pieces C q → (part q && unlisted (s .marks) q) ≡ (meets (kind C q) && same C (first C q) p)
@@ -110,12 +110,12 @@ module _ (C : Chart) where
               by-cases (decLt (key (first C q)) (bound key (s .last)))
               (λ (k : key (first C q) < bound key (s .last)). clash (among-in (I .good .full q v (t .1) k)) (not-true _ (t .0)))
               (λ (k : ¬ (key (first C q) < bound key (s .last))).
-              rw (t .1, same-yes C F (first C q) p (first-occurs C F q v (t .1)) op (omega (arith, no-first C F s I p hp q v (t .1) (omega arith)))))
+              rw (t .1, same-yes C (F .keyed) (first C q) p (first-occurs C F q v (t .1)) op (omega (arith, no-first C F s I p hp q v (t .1) (omega arith)))))
 
           fro : (meets (kind C q) && same C (first C q) p) ≡ true → (part q && unlisted (s .marks) q) ≡ true
           fro e =
               let r = and-both (meets (kind C q)) (same C (first C q) p) e in
-              let d = same-true C F (first C q) p (first-occurs C F q v (r .0)) op (r .1) in
+              let d = same-true C (F .keyed) (first C q) p (first-occurs C F q v (r .0)) op (r .1) in
               let u = next-new C F s I p hp in
               rw (first-part q v (r .0) d, among-no q (s .marks .listed) (λ m. omega (arith, (I .good .met q m) .2)), r .0)
 
@@ -148,5 +148,5 @@ module _ (C : Chart) where
           ahead q m =
               let r = keep-out (λ q. not (same C (at C q) p)) (s .marks .waiting) (rw waiting-is at m) in
               let w = I .good .ahead q (r .0) in
-              let ne = same-false C F (at C q) p (at-occurs C q (w .0) (w .1)) op (not-true _ (r .1)) in
+              let ne = same-false C (F .keyed) (at C q) p (at-occurs C q (w .0) (w .1)) op (not-true _ (r .1)) in
               (w .0, w .1, omega (arith, no-wait C F s I p hp q (r .0)))

@@ -21,7 +21,7 @@ use Rattle.sweep.proofs.Lists.{keep-in, keep-out, pairwise-map, pairwis
 use Rattle.sweep.proofs.Sorting.{sort-in, sort-out, sort-sorted}
 use Rattle.sweep.proofs.Pairs.{upto-in, upto-out, upto-up, lesser-two, adjacent-out}
 use Rattle.sweep.proofs.Occurring.{min-occurs, max-occurs}
-use Rattle.sweep.proofs.Ranked.{Act, Ranked, same-yes, same-true, same-false, same-no}
+use Rattle.sweep.proofs.Ranked.{Act, Ranked, same-yes, same-true, same-false, same-no, Keyed}
 use Rattle.sweep.proofs.First.{pair-pieces}
 use Rattle.sweep.proofs.Between.{bound, Inv}
 use Rattle.sweep.proofs.Next.{next-occurs, next-new, no-min, no-max, turns-on}
@@ -30,7 +30,7 @@ use Rattle.sweep.proofs.Examined.{Begun, After, examined-after}
 
 module _ (C : Chart) (F : Ranked C) (s : State C) (I : Inv C F s) (p : C .Point) (hp : next C s ≡ some p) where
   open Chart C using (Point, n, min, max, before)
-  open Ranked F using (key)
+  open Keyed (F .keyed) using (key)
 
   op : Occurs C p
   op = next-occurs C F s I p hp
@@ -55,16 +55,16 @@ module _ (C : Chart) (F : Ranked C) (s : State C) (I : Inv C F s) (p : C .Point)
       let r = stay-out i m in
       let o = I .active-out i (r .0) in
       let u = next-new C F s I p hp in
-      let ne = same-false C F (max i) p (max-occurs C i (o .0)) op (r .1) in
+      let ne = same-false C (F .keyed) (max i) p (max-occurs C i (o .0)) op (r .1) in
       (o .0, omega arith, omega (arith, no-max C F s I p hp i (o .0) (o .2)))
 
   enter-act : (i : ℕ) → In i (enter C s p) → Act C key p i
   unfolding starts finishes
   enter-act i m =
       let r = enter-out i m in
-      let ne = same-false C F (max i) p (max-occurs C i (r .0)) op (r .2) in
+      let ne = same-false C (F .keyed) (max i) p (max-occurs C i (r .0)) op (r .2) in
       ⊎-elim
-      (λ (e : starts C p i ≡ true). let d = same-true C F (min i) p (min-occurs C i (r .0)) op e in (r .0, omega arith, omega (arith, F .min-max i (r .0))))
+      (λ (e : starts C p i ≡ true). let d = same-true C (F .keyed) (min i) p (min-occurs C i (r .0)) op e in (r .0, omega arith, omega (arith, F .min-max i (r .0))))
       (λ (e : turns C s p i ≡ true). let o = F .on-range i p (r .0) op (turns-on C F s I p hp i e) in (r .0, omega arith, omega arith))
       (r .1)
 
@@ -90,7 +90,7 @@ module _ (C : Chart) (F : Ranked C) (s : State C) (I : Inv C F s) (p : C .Point)
       let o = I .active-out i (r .0) in
       let u = next-new C F s I p hp in
       ⊎-elim
-      (λ (h : starts C p j ≡ true). omega (arith, same-true C F (min j) p (min-occurs C j (t .0)) op h, ap (λ (x : ℕ). key (min x)) e))
+      (λ (h : starts C p j ≡ true). omega (arith, same-true C (F .keyed) (min j) p (min-occurs C j (t .0)) op h, ap (λ (x : ℕ). key (min x)) e))
       (λ (h : turns C s p j ≡ true). clash (rw e h) (r .2))
       (t .1)
 
@@ -117,10 +117,10 @@ module _ (C : Chart) (F : Ranked C) (s : State C) (I : Inv C F s) (p : C .Point)
       (λ (e : turns C s p i ≡ false). Memᴰ·append-left {s = stay C s p} _ (stays h e))
       (ask (turns C s p i)))
       (λ (h : ¬ (key (min i) < bound key (s .last))).
-      enters (or-left (starts C p i) (turns C s p i) (unfold starts in same-yes C F (min i) p (min-occurs C i (a .0)) op (omega (arith, no-min C F s I p hp i (a .0) (omega arith)))))))
+      enters (or-left (starts C p i) (turns C s p i) (unfold starts in same-yes C (F .keyed) (min i) p (min-occurs C i (a .0)) op (omega (arith, no-min C F s I p hp i (a .0) (omega arith)))))))
     where
       late : finishes C p i ≡ false
-      late = unfold finishes in same-no C F (max i) p (max-occurs C i (a .0)) op (omega arith)
+      late = unfold finishes in same-no C (F .keyed) (max i) p (max-occurs C i (a .0)) op (omega arith)
 
       enters : (starts C p i || turns C s p i) ≡ true → In i (stay C s p ++ enter C s p)
       enters e = Memᴰ·append-right (stay C s p) (unfold enter in keep-in (λ j. (starts C p j || turns C s p j) && not (finishes C p j)) (upto-in n i (a .0)) (rw (e, late)))

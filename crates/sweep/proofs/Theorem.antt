@@ -21,7 +21,7 @@ use Rattle.sweep.specs.Demand.{SweepsAlways}
 use Rattle.sweep.proofs.Tests.{ltb-no}
 use Rattle.sweep.proofs.Lists.{keep-none}
 use Rattle.sweep.proofs.Occurring.{End, Crossing, occurs-out}
-use Rattle.sweep.proofs.Ranked.{Ranked}
+use Rattle.sweep.proofs.Ranked.{Ranked, Keyed}
 use Rattle.sweep.proofs.Between.{which, bound, Inv, no-crossing}
 use Rattle.sweep.proofs.Next.{least-none, queue-min, queue-max, queue-wait, next-occurs, next-new, no-min, no-max, no-wait}
 use Rattle.sweep.proofs.Stepped.{step-inv, step-listed}
@@ -36,7 +36,7 @@ module _ (C : Chart) where
   along-snoc (q ∷ l) p = rw (along-snoc l p) (sym (append-assoc (pairs-at C q) (pairs-along C l) (pairs-at C p)))
 
   module _ (F : Ranked C) where
-    open Ranked F using (key)
+    open Keyed (F .keyed) using (key)
 
     -- what a run keeps, v being the points that it has visited
     record Kept (s : State C) (v : List Point) : Type 0 where

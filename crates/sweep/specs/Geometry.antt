@@ -22,15 +22,18 @@ module _ (C : Chart) where
   abbrev pub CrossBetween : Point → Point → ℕ → ℕ → Type 0
   CrossBetween p c i j = (test i j ≡ crosses) × (less p (crossing i j) ≡ true) × (less (crossing i j) c ≡ true)
 
+  -- the points that occur are in a strict order, and two of which neither is less are one
+  pub record PointsOrdered : Type 0 where
+    pub less-irr : (p : Point) → Occurs p → less p p ≡ false
+    pub less-trans : (p q r : Point) → Occurs p → Occurs q → Occurs r → less p q ≡ true → less q r ≡ true → less p r ≡ true
+    pub less-same : (p q : Point) → Occurs p → Occurs q → less p q ≡ false → less q p ≡ false → p ≡ q
+
   pub record Geometry : Type 1 where
     -- p lies on piece i with its ends added, included or not
     pub On : ℕ → Point → Type 0
     -- i and j lie on one line
     pub Aligned : ℕ → ℕ → Type 0
-    -- points that occur are in a strict order, and two of which neither is less are one
-    pub less-irr : (p : Point) → Occurs p → less p p ≡ false
-    pub less-trans : (p q r : Point) → Occurs p → Occurs q → Occurs r → less p q ≡ true → less q r ≡ true → less p r ≡ true
-    pub less-same : (p q : Point) → Occurs p → Occurs q → less p q ≡ false → less q p ≡ false → p ≡ q
+    pub ordered : PointsOrdered
     -- a piece lies between its ends and holds them; strictly between them it contains what lies on it
     pub min-max : (i : ℕ) → i < n → less (min i) (max i) ≡ true
     pub on-min : (i : ℕ) → i < n → On i (min i)

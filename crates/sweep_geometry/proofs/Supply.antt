@@ -25,7 +25,7 @@ use Rattle.line_segment.specs.Demand.{saysOverlap, OnlyPoint}
 use Rattle.sweep.specs.Chart.{crosses, overlaps, Chart}
 use Rattle.sweep.specs.Ported.{isLess, kindOf, isUpright}
 use Rattle.sweep.specs.Sought.{later}
-use Rattle.sweep.specs.Geometry.{Occurs, Under, CrossBetween, Geometry}
+use Rattle.sweep.specs.Geometry.{Occurs, Under, CrossBetween, PointsOrdered, Geometry}
 use Rattle.sweep.proofs.Tests.{ask}
 use Rattle.sweep.proofs.Occurring.{End, occurs-out}
 use Rattle.sweep.proofs.Occurring.{Crossing as CrossingAt}
@@ -222,6 +222,14 @@ module _ (T : Asked) (n : ℕ) (piece : ℕ → LineSegment) (ok : AllProper n p
       (at-most (pointOf (piece i .min)) p (ui .1)) from (at-most (pointOf (piece j .min)) p (uj .1)) (less-is _ ci) (less-is _ ck) (less-is _ cj)
       (order (pos i) (pos k)) (order (pos k) (pos j)) (precedes p i k (ui .0) (uk .0) e) (precedes p k j (uk .0) (uj .0) f) (on-line (piece i) c oi) (on-line (piece j) c oj) (less-is _ pc))
 
+  pub points-ordered : PointsOrdered C
+  points-ordered =
+      record {
+        less-irr = λ p o. ap isLess (point-itself p);
+        less-trans = λ p q r op oq oq′ e f. ap isLess (point-trans p q r (positive p op) (positive q oq) (positive r oq′) (less-is _ e) (less-is _ f));
+        less-same = less-same;
+      }
+
   lies : (i : ℕ) → i < n → Lie (piece i)
   lies i h = lie (piece i) (len i h)
 
@@ -230,9 +238,7 @@ module _ (T : Asked) (n : ℕ) (piece : ℕ → LineSegment) (ok : AllProper n p
       record {
         On = λ i p. On (piece i) p;
         Aligned = λ i j. OneLine (piece i) (piece j);
-        less-irr = λ p o. ap isLess (point-itself p);
-        less-trans = λ p q r op oq oq′ e f. ap isLess (point-trans p q r (positive p op) (positive q oq) (positive r oq′) (less-is _ e) (less-is _ f));
-        less-same = less-same;
+        ordered = points-ordered;
         min-max = λ i h. ap isLess (min-max (piece i) (len i h));
         on-min = λ i h. on-min (piece i) (len i h);
         on-max = λ i h. on-max (piece i) (len i h);
