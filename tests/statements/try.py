@@ -2,8 +2,9 @@
 """Tries every statement of the sweep's specs on random degenerate charts, at every budget.
 
 usage: try.py [charts [seed]]    Prints how many charts were tried and every statement that failed, then exits 1 if any did.
-The statements: Geometry's facts (on one chart in ten), SweepsAlways and what follows from it, and that the queue is
-always the ends beyond the last point with the crossings of waiting pairs."""
+The statements: Geometry's facts (on one chart in ten), SweepsAlways and what follows from it under the full order and,
+without upright pieces, under the ported one; under the ported one with upright pieces too, AlwaysPromises; and that the
+queue is always the ends beyond the last point with the crossings of waiting pairs."""
 import random
 import sys
 from collections import Counter
@@ -15,11 +16,11 @@ from sweep import Sweep
 
 def random_chart(rnd):
     """Few pieces on a small grid, so that ends meet, pieces overlap and many pass through one point."""
-    full, pieces = rnd.random() < 0.5, []
+    full, upright, pieces = rnd.random() < 0.4, rnd.random() < 0.4, []
     n, grid = rnd.choice((0, 1, 2, 3, 3, 4, 4, 5, 6)), rnd.choice((2, 3, 4, 6))
     while len(pieces) < n:
         x1, y1, x2, y2 = (rnd.randint(-grid, grid) // rnd.choice((1, 1, 2)) for _ in range(4))
-        if (x1, y1) != (x2, y2) and (full or x1 != x2):
+        if (x1, y1) != (x2, y2) and (full or upright or x1 != x2):
             pieces.append(Piece(rnd.choice((3, 3, 3, 0, 1, 2)), x1, y1, x2, y2))
     return Chart(pieces, full)
 
@@ -27,6 +28,26 @@ def random_chart(rnd):
 def sought(chart, points):
     """Point by point, the pairs that meet first there, in number order."""
     return [q for p in points for q in chart.pairs if chart.test(*q)[0] and chart.test(*q)[1] == p]
+
+
+def try_always(chart, fail):
+    """What holds with upright pieces too."""
+    points, run = set(chart.points()), Sweep(chart)
+    while run.queue:
+        run.step()
+        last = run.visited[-1]
+        queue = {e for s in chart.pieces for e in (s.min, s.max) if last < e}
+        if set(run.queue) != queue | {chart.test(*q)[1] for q in run.waiting}:
+            fail("queue")
+        if len(run.visited) > len(points):
+            break
+    if run.visited != sorted(set(run.visited)) or not points.issuperset(run.visited):
+        fail("visits-up, visits-only")
+    if len(run.listed) != len(set(run.listed)) or not all(chart.test(*q)[0] for q in run.listed):
+        fail("lists-once, lists-only")
+    if run.queue or len(run.visited) > 2 * chart.n + sum(chart.test(*q)[0] is not None for q in chart.pairs):
+        fail("steps-bounded, ends-soon")
+    return len(run.visited)
 
 
 def try_sweep(chart, fail):
@@ -94,8 +115,9 @@ def main():
     failed, budgets = Counter(), 0
     for number in range(charts):
         chart = random_chart(rnd)
-        budgets += 1 + try_sweep(chart, lambda name: failed.update([name]))
-        if number % 10 == 0:
+        whole = chart.full or not any(s.upright for s in chart.pieces)
+        budgets += 1 + (try_sweep if whole else try_always)(chart, lambda name: failed.update([name]))
+        if whole and number % 10 == 0:
             try_geometry(chart, lambda name: failed.update([name]))
     print(f"{charts} charts, {budgets} budgets")
     for name, times in failed.items():

@@ -6,6 +6,7 @@ pub mod Pairs
 pub mod Rank
 pub mod Occurring
 pub mod Ranked
+pub mod Least
 pub mod Neighbours
 pub mod First
 pub mod Between
@@ -17,3 +18,5 @@ pub mod Ascending
 pub mod Theorem
 pub mod Runs
 pub mod Promises
+pub mod Fair
+pub mod Always

@@ -73,6 +73,13 @@ module _ {A : Type 0} where
       (λ (e : f x ≡ false). ⊎-elim (λ (d : g x ≡ true). rw (e, d) (omega arith)) (λ (d : g x ≡ false). rw (e, d) r) (ask (g x)))
       (ask (f x))
 
+  pub keep-fewer : (f : A → Bool) (l : List A) → length (keep f l) ≤ length l
+  unfolding keep
+  keep-fewer f [] = omega arith
+  keep-fewer f (x ∷ l) =
+      let r = keep-fewer f l in
+      ⊎-elim (λ (e : f x ≡ true). rw e (omega arith)) (λ (e : f x ≡ false). rw e (omega arith)) (ask (f x))
+
   pub any-in : (f : A → Bool) {l : List A} {x : A} → In x l → f x ≡ true → any f l ≡ true
   unfolding any
   any-in f (here {x = y} {xs = l} q) e = or-left (f y) (any f l) (rw q at e)

@@ -1,10 +1,10 @@
 -- The next point: nothing that occurs lies before it, and the pieces that take part are those that lie on it.
 use mathlib.Core.Path.{_≡_, refl, sym, ap, subst}
 use mathlib.Core.Logic.{_⊎_, inl, inr, ⊎-elim, _≢_, by-cases}
-use mathlib.Core.Bool.{Bool, true, false, cond, _&&_, _||_}
+use mathlib.Core.Bool.{Bool, true, _&&_, _||_}
 use mathlib.Core.Option.{none, some}
-use mathlib.Core.List.{List, [], _∷_, map, Memᴰ·append-left, Memᴰ·append-right, List·Memᴰ·append-cases, Memᴰ·map, Memᴰ·of-map}
-use mathlib.Core.List.{List·Memᴰ as In, List·Memᴰ·head as here, List·Memᴰ·tail as there}
+use mathlib.Core.List.{map, Memᴰ·append-left, Memᴰ·append-right, List·Memᴰ·append-cases, Memᴰ·map, Memᴰ·of-map}
+use mathlib.Core.List.{List·Memᴰ as In}
 use Prim.Native.Nat.{ℕ, _≤_, _<_}
 use native.Mathlib.Omega.{arith}
 use native.Mathlib.Decide.{decLt, ℕ-discrete}
@@ -13,36 +13,21 @@ use borrow.Author.Tests.{eqb-true}
 use Rattle.sweep.specs.Lists.{Pair, upto, keep, any}
 use Rattle.sweep.specs.Chart.{crosses, overlaps, Chart, meets, same, kind, at}
 use Rattle.sweep.specs.State.{State}
-use Rattle.sweep.specs.Queue.{ends, beyond, queue, least-from, least, next}
+use Rattle.sweep.specs.Queue.{ends, beyond, queue, next}
 use Rattle.sweep.specs.Step.{starts, finishes, turns, takes-part}
 use Rattle.sweep.specs.Sought.{first}
 use Rattle.sweep.specs.Geometry.{Occurs}
 use Rattle.sweep.specs.Demand.{Pieces}
-use Rattle.sweep.proofs.Tests.{ask, and-both, or-one, or-right, eqb-yes}
+use Rattle.sweep.proofs.Tests.{and-both, or-one, or-right, eqb-yes}
 use Rattle.sweep.proofs.Lists.{keep-in, keep-out, any-in, any-out}
 use Rattle.sweep.proofs.Occurring.{End, Crossing, min-in, max-in, ends-out, end-occurs, min-occurs, max-occurs, at-occurs}
-use Rattle.sweep.proofs.Ranked.{Ranked, less-true, less-false, less-yes, same-yes, same-true, Keyed}
+use Rattle.sweep.proofs.Least.{least-some}
+use Rattle.sweep.proofs.Ranked.{Ranked, less-true, less-yes, same-yes, same-true, Keyed}
 use Rattle.sweep.proofs.First.{meets-two, first-crosses, first-min}
 use Rattle.sweep.proofs.Between.{which, bound, bound-none, bound-some, Inv, no-crossing}
 
 module _ (C : Chart) where
   open Chart C using (Point, less, n, min, max, contains)
-
-  least-from-in : (p : Point) (l : List Point) → In (least-from C p l) (p ∷ l)
-  unfolding least-from
-  least-from-in p [] = here refl
-  least-from-in p (q ∷ l) = fix (less q p) (least-from-in _ l)
-    where
-      fix : {x : Point} (b : Bool) → In x (cond b q p ∷ l) → In x (p ∷ q ∷ l)
-      fix true (here e) = there (here e)
-      fix false (here e) = here e
-      fix true (there m) = there (there m)
-      fix false (there m) = there (there m)
-
-  pub least-none : (l : List Point) → least C l ≡ none → (x : Point) → ¬ In x l
-  unfolding least
-  least-none [] e x m = elim m [ ]
-  least-none (q ∷ l) e x m = let z : _≡_ {A = ℕ} 0 1 = cc in omega arith
 
   turns-out : (s : State C) (p : Point) (i : ℕ) → turns C s p i ≡ true → (q : Pair) × In q (s .marks .waiting) × (same C (at C q) p ≡ true) × ((i ≡ q .0) ⊎ (i ≡ q .1))
   unfolding turns
@@ -58,32 +43,6 @@ module _ (C : Chart) where
 
   module _ (F : Ranked C) where
     open Keyed (F .keyed) using (key)
-
-    lesser : (p q : Point) → Occurs C p → Occurs C q → Occurs C (cond (less q p) q p) × (key (cond (less q p) q p) ≤ key p) × (key (cond (less q p) q p) ≤ key q)
-    lesser p q a b =
-        ⊎-elim
-        (λ (e : less q p ≡ true). rw e (b, omega (arith, less-true C (F .keyed) q p b a e), omega arith))
-        (λ (e : less q p ≡ false). rw e (a, omega arith, omega (arith, less-false C (F .keyed) q p b a e)))
-        (ask (less q p))
-
-    least-from-le : (p : Point) (l : List Point) → Occurs C p → ((x : Point) → In x l → Occurs C x) → {x : Point} → In x (p ∷ l) → key (least-from C p l) ≤ key x
-    unfolding least-from
-    least-from-le p [] op ol (here e) = rw e (omega arith)
-    least-from-le p [] op ol (there m) = elim m [ ]
-    least-from-le p (q ∷ l) op ol m =
-        let c = lesser p q op (ol q (here refl)) in
-        from c (λ y k. least-from-le (cond (less q p) q p) l (c .0) (λ x h. ol x (there h)) k) m
-      where
-        from : {x : Point} → Occurs C (cond (less q p) q p) × (key (cond (less q p) q p) ≤ key p) × (key (cond (less q p) q p) ≤ key q)
-            → ((y : Point) → In y (cond (less q p) q p ∷ l) → key (least-from C (cond (less q p) q p) l) ≤ key y) → In x (p ∷ q ∷ l) → key (least-from C (cond (less q p) q p) l) ≤ key x
-        from c r (here e) = rw e (omega (arith, r _ (here refl), c))
-        from c r (there (here e)) = rw e (omega (arith, r _ (here refl), c))
-        from c r (there (there k)) = r _ (there k)
-
-    least-some : (l : List Point) (p : Point) → ((x : Point) → In x l → Occurs C x) → least C l ≡ some p → In p l × ((x : Point) → In x l → key p ≤ key x)
-    unfolding least
-    least-some [] p ol e = let z : _≡_ {A = ℕ} 0 1 = cc in absurd (omega arith)
-    least-some (q ∷ l) p ol e = let d : least-from C q l ≡ p = cc in (rw d at (least-from-in q l), λ x m. rw d at (least-from-le q l (ol q (here refl)) (λ y k. ol y (there k)) m))
 
     module _ (s : State C) (I : Inv C F s) where
       beyond-yes : (p : Point) → Occurs C p → bound key (s .last) ≤ key p → beyond C (s .last) p ≡ true
@@ -141,7 +100,7 @@ module _ (C : Chart) where
       module _ (p : Point) (hp : next C s ≡ some p) where
         taken-least : In p (queue C s) × ((x : Point) → In x (queue C s) → key p ≤ key x)
         unfolding next
-        taken-least = least-some (queue C s) p queue-occurs hp
+        taken-least = least-some C (F .keyed) (queue C s) p queue-occurs hp
 
         pub next-occurs : Occurs C p
         next-occurs = queue-occurs p (taken-least .0)

@@ -4,17 +4,18 @@ use mathlib.Core.Logic.{_⊎_, inl, inr, ⊎-elim, _≢_}
 use mathlib.Core.Bool.{true}
 use mathlib.Core.List.{List, [], _∷_, map, Memᴰ·append-left, Memᴰ·append-right, List·Memᴰ·append-cases, Memᴰ·map, Memᴰ·of-map}
 use mathlib.Core.List.{List·Memᴰ as In, List·Memᴰ·head as here, List·Memᴰ·tail as there}
-use Prim.Native.Nat.{ℕ, _<_}
+use lib.ListN.{length, length-append, length-map}
+use Prim.Native.Nat.{_+_, _*_, _≤_, ℕ, _<_}
 use native.Mathlib.Omega.{arith}
 use Rattle.sweep.specs.Lists.{Pair, upto, keep, Pairwise}
-use Rattle.sweep.specs.Chart.{Kind, nothing, crosses, overlaps, Chart, kind, at}
+use Rattle.sweep.specs.Chart.{meets, Kind, nothing, crosses, overlaps, Chart, kind, at}
 use Rattle.sweep.specs.Queue.{ends}
-use Rattle.sweep.specs.Sought.{is-crossing, all, occurring}
+use Rattle.sweep.specs.Sought.{is-crossing, all, occurring, meeting}
 use Rattle.sweep.specs.Geometry.{Occurs}
 use Rattle.sweep.specs.Demand.{Pieces}
 use Rattle.sweep.proofs.Tests.{clash}
-use Rattle.sweep.proofs.Lists.{keep-in, keep-out}
-use Rattle.sweep.proofs.Pairs.{Sooner, upto-in, upto-out, upto-up, pairs-in, pairs-out, pairs-sooner, pairs-once}
+use Rattle.sweep.proofs.Lists.{keep-in, keep-out, keep-length}
+use Rattle.sweep.proofs.Pairs.{upto-length, Sooner, upto-in, upto-out, upto-up, pairs-in, pairs-out, pairs-sooner, pairs-once}
 
 pub is-crossing-true : (k : Kind) → is-crossing k ≡ true → k ≡ crosses
 unfolding is-crossing
@@ -104,3 +105,22 @@ module _ (C : Chart) where
       let k = keep-out (λ q. is-crossing (kind C q)) (all C) (r .1) in
       inr (r .0, all-out (k .0), is-crossing-true (kind C (r .0)) (k .1), sym (r .2)))
       (List·Memᴰ·append-cases (ends C (upto n)) m)
+
+  ends-length : (l : List ℕ) → length (ends C l) ≡ 2 * length l
+  unfolding ends
+  ends-length [] = refl
+  ends-length (i ∷ l) = omega (arith, ends-length l)
+
+  -- two ends a piece, and a crossing only of a pair that meets
+  pub occurring-length : length (occurring C) ≤ 2 * n + length (meeting C)
+  unfolding occurring meeting meets
+  occurring-length =
+      let c : List Pair = keep (λ q. is-crossing (kind C q)) (all C) in
+      omega (
+        arith,
+        length-append (ends C (upto n)) (map (at C) c),
+        ends-length (upto n),
+        upto-length n,
+        length-map c (at C),
+        keep-length (λ q. is-crossing (kind C q)) (λ q. meets (kind C q)) (all C) (λ q m e. rw (is-crossing-true (kind C q) e)),
+      )

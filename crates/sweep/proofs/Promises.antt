@@ -3,26 +3,26 @@ use mathlib.Core.Path.{_≡_, refl, sym, ap, _∙_}
 use mathlib.Core.Logic.{inl, inr, ⊎-elim, _≢_, _↔_}
 use mathlib.Core.Bool.{true, false, _&&_}
 use mathlib.Core.Option.{Option, none, some}
-use mathlib.Core.List.{List, [], _∷_, map, Memᴰ·append-left, Memᴰ·append-right, List·Memᴰ·append-cases}
+use mathlib.Core.List.{List, [], _∷_, Memᴰ·append-left, Memᴰ·append-right, List·Memᴰ·append-cases}
 use mathlib.Core.List.{List·Memᴰ as In, List·Memᴰ·head as here, List·Memᴰ·tail as there}
 use Prim.Native.Nat.{ℕ, suc, _+_, _*_, _≤_, _<_}
 use native.Mathlib.Omega.{arith}
 use lib.Dec.{ltb}
-use lib.ListN.{length, take, length-append, length-take, length-map}
+use lib.ListN.{length, take, length-take}
 use borrow.Author.Tests.{ltb-true}
-use Rattle.sweep.specs.Lists.{Pair, upto, keep, Pairwise}
+use Rattle.sweep.specs.Lists.{Pair, Pairwise}
 use Rattle.sweep.specs.Chart.{Chart, meets, same, kind, at}
-use Rattle.sweep.specs.Queue.{ends, next}
+use Rattle.sweep.specs.Queue.{next}
 use Rattle.sweep.specs.Run.{run, is-none, answer-of, answer}
-use Rattle.sweep.specs.Sought.{is-crossing, all, first, occurring, settle, settled, points, pairs-at, pairs-along, meeting}
+use Rattle.sweep.specs.Sought.{all, first, occurring, settle, settled, points, pairs-at, pairs-along, meeting}
 use Rattle.sweep.specs.Geometry.{Occurs, Geometry}
 use Rattle.sweep.specs.Demand.{Pieces, Behind, ListsExactly, ListsOnce, Before, ListsInOrder, VisitsInOrder, CountsSteps, EndsExactly, StepsBounded, ListsAll, Promises}
 use Rattle.sweep.proofs.Tests.{ask, ltb-yes, clash}
-use Rattle.sweep.proofs.Lists.{keep-in, keep-out, keep-length, take-in, pairwise-map, pairwise-append, pairwise-keep, pairwise-take}
-use Rattle.sweep.proofs.Pairs.{Sooner, sooner-ne, upto-length}
-use Rattle.sweep.proofs.Occurring.{all-in, all-out, all-sooner, is-crossing-true}
+use Rattle.sweep.proofs.Lists.{keep-in, keep-out, take-in, pairwise-map, pairwise-append, pairwise-keep, pairwise-take}
+use Rattle.sweep.proofs.Pairs.{Sooner, sooner-ne}
+use Rattle.sweep.proofs.Occurring.{occurring-length, all-in, all-out, all-sooner}
 use Rattle.sweep.proofs.Ranked.{Ranked, ranked, less-true, less-false, less-yes, less-no, Keyed}
-use Rattle.sweep.proofs.First.{two-meet, first-occurs, pairs-at-in, pairs-at-out}
+use Rattle.sweep.proofs.First.{first-occurs, pairs-at-in, pairs-at-out}
 use Rattle.sweep.proofs.Between.{bound, bound-none, bound-some}
 use Rattle.sweep.proofs.Ascending.{Up, points-in, points-out, points-up, below}
 use Rattle.sweep.proofs.Theorem.{sweeps, visited-below, last-occurs, none-all, all-none}
@@ -47,26 +47,11 @@ module _ (C : Chart) where
   settled-length [] = omega arith
   settled-length (p ∷ l) = omega (arith, settle-length p (settled C l), settled-length l)
 
-  ends-length : (l : List ℕ) → length (ends C l) ≡ 2 * length l
-  unfolding ends
-  ends-length [] = refl
-  ends-length (i ∷ l) = omega (arith, ends-length l)
-
   points-length : length (points C) ≤ 2 * n + length (meeting C)
-  unfolding points occurring meeting
-  points-length =
-      let c : List Pair = keep (λ q. is-crossing (kind C q)) (all C) in
-      omega (
-        arith,
-        settled-length (occurring C),
-        length-append (ends C (upto n)) (map (at C) c),
-        ends-length (upto n),
-        upto-length n,
-        length-map c (at C),
-        keep-length (λ q. is-crossing (kind C q)) (λ q. meets (kind C q)) (all C) (λ q m e. two-meet (kind C q) (inl (is-crossing-true (kind C q) e))),
-      )
+  unfolding points
+  points-length = omega (arith, settled-length (occurring C), occurring-length C)
 
-  is-none-true : (o : Option Point) → is-none C o ≡ true → o ≡ none
+  pub is-none-true : (o : Option Point) → is-none C o ≡ true → o ≡ none
   unfolding is-none
   is-none-true none e = refl
   is-none-true (some p) e = clash e refl

@@ -13,7 +13,7 @@ use Rattle.sweep.proofs.Tests.{ask, ltb-yes, ltb-no}
 use Rattle.sweep.proofs.Lists.{keep-length}
 
 module _ {P : Type 0} where
-  keep-more : (f g : P → Bool) (l : List P) (y : P) → In y l → f y ≡ false → g y ≡ true → ((x : P) → In x l → f x ≡ true → g x ≡ true) → length (keep f l) < length (keep g l)
+  pub keep-more : (f g : P → Bool) (l : List P) (y : P) → In y l → f y ≡ false → g y ≡ true → ((x : P) → In x l → f x ≡ true → g x ≡ true) → length (keep f l) < length (keep g l)
   unfolding keep
   keep-more f g [] y m a b h = elim m [ ]
   keep-more f g (x ∷ l) y (here q) a b h =

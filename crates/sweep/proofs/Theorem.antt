@@ -23,7 +23,8 @@ use Rattle.sweep.proofs.Lists.{keep-none}
 use Rattle.sweep.proofs.Occurring.{End, Crossing, occurs-out}
 use Rattle.sweep.proofs.Ranked.{Ranked, Keyed}
 use Rattle.sweep.proofs.Between.{which, bound, Inv, no-crossing}
-use Rattle.sweep.proofs.Next.{least-none, queue-min, queue-max, queue-wait, next-occurs, next-new, no-min, no-max, no-wait}
+use Rattle.sweep.proofs.Least.{least-none}
+use Rattle.sweep.proofs.Next.{queue-min, queue-max, queue-wait, next-occurs, next-new, no-min, no-max, no-wait}
 use Rattle.sweep.proofs.Stepped.{step-inv, step-listed}
 use Rattle.sweep.proofs.Ascending.{points-in, points-out, points-up, below, below-take, below-more, below-all}
 

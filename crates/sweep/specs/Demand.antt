@@ -100,3 +100,16 @@ module _ (C : Chart) where
     pub steps-bounded : StepsBounded
     pub ends-exactly : EndsExactly
     pub runs-on : RunsOn
+
+  -- on every chart whose points are in order, whatever the order of the active list: with upright pieces too, nothing is
+  -- invented or listed twice, the sweep moves forward from end or crossing to end or crossing, and it ends
+  pub record AlwaysPromises : Type 0 where
+    pub visits-up : (budget : ℕ) → Pairwise (λ p q. less p q ≡ true) (visited C budget)
+    pub visits-only : (budget : ℕ) (p : Point) → In p (visited C budget) → Occurs C p
+    pub lists-only : (budget : ℕ) (q : Pair) → In q ((answer C budget) .listed) → Pieces q × (meets (kind C q) ≡ true)
+    pub lists-once : ListsOnce
+    pub lists-on : ListsOn
+    pub last-visited : LastVisited
+    pub steps-bounded : StepsBounded
+    pub ends-soon : (budget : ℕ) → 2 * n + length (meeting C) ≤ budget → (answer C budget) .ended ≡ true
+    pub runs-on : RunsOn

@@ -7,11 +7,12 @@ use Rattle.fractions.specs.declared.Point.{Point}
 use Rattle.line_segment.specs.declared.LineSegment.{LineSegment}
 use Rattle.sweep.specs.Ported.{isLess, isUpright, heightAbove, heightBelow, heightOrder, rankOrder, ported}
 use Rattle.sweep.proofs.Promises.{promises}
+use Rattle.sweep.proofs.Always.{always}
 use Rattle.sweep_geometry.specs.Full.{fullAbove, fullBelow, fullHeightOrder, fullOrder, full}
-use Rattle.sweep_geometry.specs.Demand.{PortedSweeps, FullSweeps}
+use Rattle.sweep_geometry.specs.Demand.{PortedSweeps, PortedAlways, FullSweeps}
 use Rattle.sweep_geometry.proofs.Asked.{Asked}
 use Rattle.sweep_geometry.proofs.Heights.{full-irr, ported-irr}
-use Rattle.sweep_geometry.proofs.Supply.{geometry}
+use Rattle.sweep_geometry.proofs.Supply.{points-ordered, geometry}
 
 -- ---- without upright pieces the two orders are one
 module _ (s : LineSegment) (p : Point) (e : isUpright s ≡ false) where
@@ -36,3 +37,6 @@ pub ported-sweeps : Asked → PortedSweeps
 ported-sweeps T n piece ok flat =
     promises (ported n piece)
     (geometry T n piece ok (λ p i j. isLess (rankOrder piece p i j)) (ported-irr piece) (λ p i j hi hj. ap isLess (same-order piece p i j (flat i hi) (flat j hj))))
+
+pub ported-always : Asked → PortedAlways
+ported-always T n piece ok = always (ported n piece) (points-ordered T n piece ok (λ p i j. isLess (rankOrder piece p i j)))

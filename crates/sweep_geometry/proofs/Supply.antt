@@ -110,8 +110,7 @@ module _ (T : Asked) (a b : LineSegment) (la : HasLength a) (lb : HasLength b) w
           )
 
 module _ (T : Asked) (n : ℕ) (piece : ℕ → LineSegment) (ok : AllProper n piece)
-    (before : Point → ℕ → ℕ → Bool) (irr : (p : Point) (i : ℕ) → before p i i ≡ false)
-    (agree : (p : Point) (i j : ℕ) → i < n → j < n → isLess (fullOrder piece p i j) ≡ before p i j) where
+    (before : Point → ℕ → ℕ → Bool) where
   abbrev pub C : Chart
   C =
       record {
@@ -168,6 +167,14 @@ module _ (T : Asked) (n : ℕ) (piece : ℕ → LineSegment) (ok : AllProper n p
       go Equal h = orders-points .one-record p q ((reduced p op) .0) ((reduced q oq) .0) h
       go Greater h = absurd (at-most p q f h)
 
+  pub points-ordered : PointsOrdered C
+  points-ordered =
+      record {
+        less-irr = λ p o. ap isLess (point-itself p);
+        less-trans = λ p q r op oq oq′ e f. ap isLess (point-trans p q r (positive p op) (positive q oq) (positive r oq′) (less-is _ e) (less-is _ f));
+        less-same = less-same;
+      }
+
   -- ---- the test
   module _ (i j : ℕ) (hi : i < n) (hj : j < n) where
     crossing-point : kindOf (intersectOf (piece i) (piece j)) ≡ crosses → OnlyPoint (piece i) (piece j) (crossingOf (piece i) (piece j))
@@ -203,62 +210,57 @@ module _ (T : Asked) (n : ℕ) (piece : ℕ → LineSegment) (ok : AllProper n p
   between : (p c : Point) (i j : ℕ) → CrossIn (piece i) (piece j) p c → CrossBetween C p c i j
   between p c i j x = (ap kindOf (x .cross), ap isLess (x .after), ap isLess (x .until))
 
-  precedes : (p : Point) (i j : ℕ) → i < n → j < n → before p i j ≡ true → Precedes p (piece i) (piece j) (order (pos i) (pos j))
-  unfolding fullOrder
-  precedes p i j hi hj e = less-is (fullOrder piece p i j) (agree p i j hi hj ∙ e)
-
-  squeezed : (p c : Point) → Occurs C p → Occurs C c → isLess (pointOrder p c) ≡ true → (i k j : ℕ) → Under C p i → Under C p k → Under C p j
-      → isLess (pointOrder c (pointOf (piece i .max))) ≡ true → isLess (pointOrder c (pointOf (piece k .max))) ≡ true → isLess (pointOrder c (pointOf (piece j .max))) ≡ true
-      → before p i k ≡ true → before p k j ≡ true → On (piece i) c → On (piece j) c → On (piece k) c ⊎ (CrossBetween C p c i k ⊎ CrossBetween C p c k j)
-  squeezed p c op oc pc i k j ui uk uj ci ck cj e f oi oj =
-      let from = at-most (pointOf (piece k .min)) p (uk .1) in
-      ⊎-elim
-      (λ (z : side (piece k) c ≡ pos 0).
-      inl (on-of (piece k) c z
-      (λ g. never (at-most-less (pointOf (piece k .min)) p c (whole (piece k .min)) (positive p op) (positive c oc) from (less-is _ pc)) g (omega arith))
-      (λ g. never (less-is _ ck) g (omega arith))))
-      (λ (z : CrossIn (piece i) (piece k) p c ⊎ CrossIn (piece k) (piece j) p c). inr (⊎-elim (λ x. inl (between p c i k x)) (λ x. inr (between p c k j x)) z))
-      (squeeze T (piece i) (piece k) (piece j) (len i (ui .0)) (len k (uk .0)) (len j (uj .0)) p c (positive p op) (positive c oc)
-      (at-most (pointOf (piece i .min)) p (ui .1)) from (at-most (pointOf (piece j .min)) p (uj .1)) (less-is _ ci) (less-is _ ck) (less-is _ cj)
-      (order (pos i) (pos k)) (order (pos k) (pos j)) (precedes p i k (ui .0) (uk .0) e) (precedes p k j (uk .0) (uj .0) f) (on-line (piece i) c oi) (on-line (piece j) c oj) (less-is _ pc))
-
-  pub points-ordered : PointsOrdered C
-  points-ordered =
-      record {
-        less-irr = λ p o. ap isLess (point-itself p);
-        less-trans = λ p q r op oq oq′ e f. ap isLess (point-trans p q r (positive p op) (positive q oq) (positive r oq′) (less-is _ e) (less-is _ f));
-        less-same = less-same;
-      }
-
   lies : (i : ℕ) → i < n → Lie (piece i)
   lies i h = lie (piece i) (len i h)
 
-  pub geometry : Geometry C
-  geometry =
-      record {
-        On = λ i p. On (piece i) p;
-        Aligned = λ i j. OneLine (piece i) (piece j);
-        ordered = points-ordered;
-        min-max = λ i h. ap isLess (min-max (piece i) (len i h));
-        on-min = λ i h. on-min (piece i) (len i h);
-        on-max = λ i h. on-max (piece i) (len i h);
-        on-range = λ i p h o on. on-range i p on;
-        contains-on = contains-on;
-        on-contains = on-contains;
-        test-sym = λ i j hi hj ne. ap kindOf ((T .whichever (piece i) (piece j) (len i hi) (len j hj)) .0);
-        crossing-sym = λ i j hi hj ne k. (T .whichever (piece i) (piece j) (len i hi) (len j hj)) .1 (kind-crosses _ k);
-        crossing-on = λ i j hi hj ne k. let m = crossing-point i j hi hj k in (lies-on (piece i) _ (m .common .first), lies-on (piece j) _ (m .common .second));
-        crossing-only = λ i j p hi hj ne o k oi oj. (crossing-point i j hi hj k) .only p ((reduced p o) .0) (on-line (piece i) p oi) (on-line (piece j) p oj);
-        crossing-not-aligned = λ i j hi hj ne k. (T .cramers (piece i) (piece j) (len i hi) (len j hj) (kind-crosses _ k)) .0;
-        contains-crosses = λ i j p hi hj ne o e f na. contains-crosses i j hi hj p o e f na;
-        overlap-on = λ i j hi hj ne k. unfold later in overlap-on T (piece i) (piece j) (len i hi) (len j hj) k;
-        aligned-dec = λ i j. aligned-dec (piece i) (piece j);
-        aligned-trans = λ i j k p hi hj hk o oi oj ok′ l m. aligned-trans (piece i) (piece j) (piece k) (len j hj) l m;
-        before-irr = irr;
-        before-trans = λ p o i j k ui uj uk e f.
-            sym (agree p i k (ui .0) (uk .0))
-            ∙ full-trans piece p (positive p o) i j (lies i (ui .0)) (lies j (uj .0)) k (lies k (uk .0)) (agree p i j (ui .0) (uj .0) ∙ e) (agree p j k (uj .0) (uk .0) ∙ f);
-        before-total = λ p o i j ui uj ne e.
-            sym (agree p j i (uj .0) (ui .0)) ∙ full-total piece p (positive p o) i j (lies i (ui .0)) (lies j (uj .0)) ne (agree p i j (ui .0) (uj .0) ∙ e);
-        squeeze = squeezed;
-      }
+  -- ---- for an order that agrees with the full one
+  module _ (irr : (p : Point) (i : ℕ) → before p i i ≡ false)
+      (agree : (p : Point) (i j : ℕ) → i < n → j < n → isLess (fullOrder piece p i j) ≡ before p i j) where
+    precedes : (p : Point) (i j : ℕ) → i < n → j < n → before p i j ≡ true → Precedes p (piece i) (piece j) (order (pos i) (pos j))
+    unfolding fullOrder
+    precedes p i j hi hj e = less-is (fullOrder piece p i j) (agree p i j hi hj ∙ e)
+
+    squeezed : (p c : Point) → Occurs C p → Occurs C c → isLess (pointOrder p c) ≡ true → (i k j : ℕ) → Under C p i → Under C p k → Under C p j
+        → isLess (pointOrder c (pointOf (piece i .max))) ≡ true → isLess (pointOrder c (pointOf (piece k .max))) ≡ true → isLess (pointOrder c (pointOf (piece j .max))) ≡ true
+        → before p i k ≡ true → before p k j ≡ true → On (piece i) c → On (piece j) c → On (piece k) c ⊎ (CrossBetween C p c i k ⊎ CrossBetween C p c k j)
+    squeezed p c op oc pc i k j ui uk uj ci ck cj e f oi oj =
+        let from = at-most (pointOf (piece k .min)) p (uk .1) in
+        ⊎-elim
+        (λ (z : side (piece k) c ≡ pos 0).
+        inl (on-of (piece k) c z
+        (λ g. never (at-most-less (pointOf (piece k .min)) p c (whole (piece k .min)) (positive p op) (positive c oc) from (less-is _ pc)) g (omega arith))
+        (λ g. never (less-is _ ck) g (omega arith))))
+        (λ (z : CrossIn (piece i) (piece k) p c ⊎ CrossIn (piece k) (piece j) p c). inr (⊎-elim (λ x. inl (between p c i k x)) (λ x. inr (between p c k j x)) z))
+        (squeeze T (piece i) (piece k) (piece j) (len i (ui .0)) (len k (uk .0)) (len j (uj .0)) p c (positive p op) (positive c oc)
+        (at-most (pointOf (piece i .min)) p (ui .1)) from (at-most (pointOf (piece j .min)) p (uj .1)) (less-is _ ci) (less-is _ ck) (less-is _ cj)
+        (order (pos i) (pos k)) (order (pos k) (pos j)) (precedes p i k (ui .0) (uk .0) e) (precedes p k j (uk .0) (uj .0) f) (on-line (piece i) c oi) (on-line (piece j) c oj) (less-is _ pc))
+
+    pub geometry : Geometry C
+    geometry =
+        record {
+          On = λ i p. On (piece i) p;
+          Aligned = λ i j. OneLine (piece i) (piece j);
+          ordered = points-ordered;
+          min-max = λ i h. ap isLess (min-max (piece i) (len i h));
+          on-min = λ i h. on-min (piece i) (len i h);
+          on-max = λ i h. on-max (piece i) (len i h);
+          on-range = λ i p h o on. on-range i p on;
+          contains-on = contains-on;
+          on-contains = on-contains;
+          test-sym = λ i j hi hj ne. ap kindOf ((T .whichever (piece i) (piece j) (len i hi) (len j hj)) .0);
+          crossing-sym = λ i j hi hj ne k. (T .whichever (piece i) (piece j) (len i hi) (len j hj)) .1 (kind-crosses _ k);
+          crossing-on = λ i j hi hj ne k. let m = crossing-point i j hi hj k in (lies-on (piece i) _ (m .common .first), lies-on (piece j) _ (m .common .second));
+          crossing-only = λ i j p hi hj ne o k oi oj. (crossing-point i j hi hj k) .only p ((reduced p o) .0) (on-line (piece i) p oi) (on-line (piece j) p oj);
+          crossing-not-aligned = λ i j hi hj ne k. (T .cramers (piece i) (piece j) (len i hi) (len j hj) (kind-crosses _ k)) .0;
+          contains-crosses = λ i j p hi hj ne o e f na. contains-crosses i j hi hj p o e f na;
+          overlap-on = λ i j hi hj ne k. unfold later in overlap-on T (piece i) (piece j) (len i hi) (len j hj) k;
+          aligned-dec = λ i j. aligned-dec (piece i) (piece j);
+          aligned-trans = λ i j k p hi hj hk o oi oj ok′ l m. aligned-trans (piece i) (piece j) (piece k) (len j hj) l m;
+          before-irr = irr;
+          before-trans = λ p o i j k ui uj uk e f.
+              sym (agree p i k (ui .0) (uk .0))
+              ∙ full-trans piece p (positive p o) i j (lies i (ui .0)) (lies j (uj .0)) k (lies k (uk .0)) (agree p i j (ui .0) (uj .0) ∙ e) (agree p j k (uj .0) (uk .0) ∙ f);
+          before-total = λ p o i j ui uj ne e.
+              sym (agree p j i (uj .0) (ui .0)) ∙ full-total piece p (positive p o) i j (lies i (ui .0)) (lies j (uj .0)) ne (agree p i j (ui .0) (uj .0) ∙ e);
+          squeeze = squeezed;
+        }

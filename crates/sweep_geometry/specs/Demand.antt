@@ -17,7 +17,7 @@ use Rattle.charts.specs.declared.Verdict.the-variants.{Accepted}
 use Rattle.sweep.specs.Lists.{Pair}
 use Rattle.sweep.specs.Chart.{meets, kind}
 use Rattle.sweep.specs.Sought.{first}
-use Rattle.sweep.specs.Demand.{Pieces, Promises}
+use Rattle.sweep.specs.Demand.{Pieces, Promises, AlwaysPromises}
 use Rattle.sweep.specs.Ported.{isUpright, ported}
 use Rattle.sweep_geometry.specs.Full.{full}
 
@@ -41,7 +41,11 @@ PortedSweeps = (n : ℕ) (piece : ℕ → LineSegment) → AllProper n piece →
 abbrev pub FullSweeps : Type 0
 FullSweeps = (n : ℕ) (piece : ℕ → LineSegment) → AllProper n piece → Promises (full n piece)
 
--- the same of every accepted list of numbers with no upright piece
+-- the ported sweep on every chart, upright pieces or not: it invents nothing, lists nothing twice, moves forward and ends
+abbrev pub PortedAlways : Type 0
+PortedAlways = (n : ℕ) (piece : ℕ → LineSegment) → AllProper n piece → AlwaysPromises (ported n piece)
+
+-- PortedSweeps of every accepted list of numbers
 abbrev pub ListSweeps : Type 0
 ListSweeps =
     (list : List ℤ) (n : ℕ) → verdictOf list ≡ Accepted n → noUpright list n ≡ true → Promises (ported n (pieceAt list))
