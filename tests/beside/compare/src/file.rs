@@ -7,7 +7,7 @@ use crate::library;
 use crate::refusals::numbers;
 
 /// "under 320 numbers lent"
-const ROOM: usize = 5 * MOST_PIECES;
+pub const ROOM: usize = 5 * MOST_PIECES;
 
 pub fn compare(case: &Case) -> Result<(), String> {
   let sound = write(&case.chart);
@@ -28,7 +28,7 @@ pub fn compare(case: &Case) -> Result<(), String> {
 }
 
 /// The answer, and every number of the lent list.
-fn compare_reading(bytes: &[u8], lent: usize) -> Result<(), String> {
+pub fn compare_reading(bytes: &[u8], lent: usize) -> Result<(), String> {
   let mut list: Vec<i32> = (0..lent).map(|i| -7 - i as i32).collect();
   let mut expected = list.clone();
   let outcome = if lent < ROOM {
@@ -59,7 +59,7 @@ fn scrambled(sound: &[u8]) -> impl Iterator<Item = Vec<u8>> {
 }
 
 /// Damaged files, and the refusal that each gets.
-fn damaged(chart: &Chart) -> Vec<(Vec<u8>, Refusal)> {
+pub fn damaged(chart: &Chart) -> Vec<(Vec<u8>, Refusal)> {
   let sound = write(chart);
   let mut faults = vec![
     ([&sound[..], &[0]].concat(), (7, sound.len())),

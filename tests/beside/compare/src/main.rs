@@ -8,6 +8,7 @@ mod answers;
 mod case;
 mod charts;
 mod file;
+mod files;
 mod half_line;
 mod kept;
 mod library;
@@ -35,6 +36,7 @@ use answers::Chart;
 use charts::Random;
 
 const GATE_SEED: u64 = 1;
+const GATE_FILES: usize = 20_000;
 
 /// Charts of one temper: how many, the one of each index, and what is compared on each.
 struct Family {
@@ -49,10 +51,10 @@ type Check = fn(&Chart) -> Result<(), String>;
 fn main() -> ExitCode {
   let words: Vec<String> = std::env::args().skip(1).collect();
   let words: Vec<&str> = words.iter().map(String::as_str).collect();
-  let families = match words[..] {
-    ["gate"] => gate(),
+  let (families, seed, files) = match words[..] {
+    ["gate"] => (gate(), GATE_SEED, GATE_FILES),
     ["long", seed, count] => match (seed.parse(), count.parse()) {
-      (Ok(seed), Ok(count)) => long(seed, count),
+      (Ok(seed), Ok(count)) => (long(seed, count), seed, count),
       _ => return usage(),
     },
     ["record", folder] => return recorded(record::write(folder.as_ref())),
@@ -71,7 +73,18 @@ fn main() -> ExitCode {
       family.count, family.name
     );
   }
-  ExitCode::SUCCESS
+  let start = Instant::now();
+  match files::compare(seed, files) {
+    Ok(count) => {
+      let seconds = start.elapsed().as_secs_f32();
+      println!("compare: {count} files, {seconds:.1} s");
+      ExitCode::SUCCESS
+    }
+    Err(told) => {
+      println!("compare: a file differs in {told}");
+      ExitCode::FAILURE
+    }
+  }
 }
 
 fn usage() -> ExitCode {

@@ -9,6 +9,7 @@ use std::path::Path;
 use crate::answers::{Chart, End, Meeting, Point, is_upright};
 use crate::charts::{self, Random};
 use crate::file;
+use crate::files;
 use crate::kept;
 use crate::original::{self, Original};
 
@@ -20,23 +21,27 @@ pub fn write(folder: &Path) -> io::Result<()> {
   write_one(&folder.join("place"), &two, place)?;
   write_one(&folder.join("naive"), &any, naive)?;
   write_one(&folder.join("sweep"), &any, sweep)?;
-  write_one(&folder.join("chart"), &any, listing)
+  write_one(&folder.join("chart"), &any, listing)?;
+  let files = files::sample();
+  let answers = files.iter().map(|bytes| reading(bytes));
+  write_files(&folder.join("file"), &files, answers.collect())
 }
 
-/// A chart stands in `stdin` as its file's length, two bytes, low first, and its file.
 fn write_one(folder: &Path, charts: &[Chart], answer: fn(&Chart) -> String) -> io::Result<()> {
+  let files: Vec<Vec<u8>> = charts.iter().map(file::write).collect();
+  write_files(folder, &files, charts.iter().map(answer).collect())
+}
+
+/// A file stands in `stdin` after its length, two bytes, low first.
+fn write_files(folder: &Path, files: &[Vec<u8>], answers: String) -> io::Result<()> {
   let mut stdin = Vec::new();
-  for chart in charts {
-    let bytes = file::write(chart);
+  for bytes in files {
     stdin.extend((bytes.len() as u16).to_le_bytes());
     stdin.extend(bytes);
   }
   fs::create_dir_all(folder)?;
   fs::write(folder.join("stdin"), stdin)?;
-  fs::write(
-    folder.join("stdout"),
-    charts.iter().map(answer).collect::<String>(),
-  )
+  fs::write(folder.join("stdout"), answers)
 }
 
 fn charts_of_two() -> Vec<Chart> {
@@ -66,6 +71,18 @@ fn charts_of_any_count() -> Vec<Chart> {
     .chain(wide)
     .chain(random(10, charts::full_size))
     .collect()
+}
+
+/// `refused`, the number and the place, or `read`, the count and the numbers. The Rust has no reader:
+/// this is the model's.
+fn reading(bytes: &[u8]) -> String {
+  match file::read(bytes) {
+    Err((number, place)) => format!("refused {number} {place}\n"),
+    Ok(chart) => {
+      let numbers: String = chart.iter().flatten().map(|v| format!(" {v}")).collect();
+      format!("read {}{numbers}\n", chart.len())
+    }
+  }
 }
 
 /// Piece 0 asking piece 1: `nothing`, `crossing X Y D`, or `overlap` and both ends, each x, y and

@@ -1,0 +1,30 @@
+-- `print_pieces` goes through the list.
+use borrow.Author.Needs.{needs}
+use Prim.Native.Nat.{_≤_, _-_}
+use lib.ListN.{length}
+use Rattle.replay_file.proofs.print_pieces.Statement.{statement}
+use Rattle.replay_file.proofs.print_pieces.Tie as tie
+
+abbrev Inv-loop : tie.InvT-loop
+Inv-loop list count n i₀ t5 i = i ≤ length list
+
+abbrev μ-loop : tie.MeasureT-loop
+μ-loop list count n i₀ t5 i = length list - i
+
+pub print-pieces-spec : {M : Type 1} → statement M
+print-pieces-spec =
+    tie.close
+    (tie.spec
+    Inv-loop
+    μ-loop
+    (λ c. search needs)
+    (λ c. search needs)
+    (λ c. search needs)
+    (λ c κs. search needs)
+    (λ c. search needs)
+    (λ c. search needs)
+    (λ c κs. search needs)
+    (λ c. search needs)
+    (λ c. search needs)
+    (λ c. search needs)
+    (λ c. search needs))
