@@ -9,7 +9,7 @@ use lib.ListN.{length}
 use Rattle.line_segment.specs.declared.Meeting.{Meeting}
 use Rattle.line_segment.specs.Piece.{HasLength, pointOf}
 use Rattle.line_segment.specs.Segment.{intersectOf, crossingOf}
-use Rattle.line_segment.specs.Demand.{CrossingIsCramers}
+use Rattle.line_segment.proofs.Promises.{crossing-is-cramers}
 use Rattle.charts.specs.declared.Verdict.{Verdict}
 use Rattle.charts.specs.Piece.{pieceAt}
 use Rattle.charts.specs.Demand as Charts
@@ -26,14 +26,14 @@ use Rattle.place.proofs.Promises.{near, same}
 use Rattle.place.proofs.Inside.{x-inside, y-inside}
 use Rattle.place.proofs.Held.{StretchInRange, overlap, meeting-in, crossing-held}
 
-pub place-is-due : CrossingIsCramers → PlaceIsDue
+pub place-is-due : PlaceIsDue
 unfolding placeOf whereOf whereBy alongOf inBinary64 nearestPoint pointOf
-place-is-due cramers a b h k r s = go (intersectOf a b) refl (meeting-in a b r s)
+place-is-due a b h k r s = go (intersectOf a b) refl (meeting-in a b r s)
   where
     crossed : intersectOf a b ≡ Meeting.Crossing → Due a b (nearest (crossingOf a b .x) (crossingOf a b .d) ∷ nearest (crossingOf a b .y) (crossingOf a b .d) ∷ [])
     crossed e =
         let c = crossingOf a b in
-        let on = cramers a b h k e .1 .common .first in
+        let on = crossing-is-cramers a b h k e .1 .common .first in
         let held = crossing-held a b r s e in
         at e
         (near (c .x) (c .d) (held .positive) (held .d) (x-inside a c on r))
@@ -57,13 +57,13 @@ accepted list n (Charts.ten e v d) =
     let a = refuses-exactly list (Verdict.Accepted n) .1 d in
     (pieces-have-length list n 0 a (omega arith), pieces-have-length list n 1 a (omega arith))
 
-pub answer-is-due : CrossingIsCramers → AnswerIsDue
+pub answer-is-due : AnswerIsDue
 unfolding placeAnswerOf
-answer-is-due cramers list v due =
+answer-is-due list v due =
     subst (λ (w : Verdict). AnswerDue list v (placeAnswer (placeOf (pieceAt list 0) (pieceAt list 1)) w)) (sym (pair-refuses-exactly list v .1 due)) (go v due)
   where
     go : (v : Verdict) → PairDue list v → AnswerDue list v (placeAnswer (placeOf (pieceAt list 0) (pieceAt list 1)) v)
     go (Verdict.Refused k i) d = record { number = refl; place = refl; values = refl }
     go (Verdict.Accepted n) d =
         let h = accepted list n d in
-        record { number = refl; place = refl; values = place-is-due cramers (pieceAt list 0) (pieceAt list 1) (h .0) (h .1) (given-in-range list 0) (given-in-range list 1) }
+        record { number = refl; place = refl; values = place-is-due (pieceAt list 0) (pieceAt list 1) (h .0) (h .1) (given-in-range list 0) (given-in-range list 1) }

@@ -12,11 +12,11 @@ use Rattle.integers.proofs.Factors.{*-mono-≤}
 use Rattle.integers.proofs.Sizes.{small-of, small-lo, small-hi}
 use Rattle.fractions.specs.declared.Point.{Point}
 use Rattle.line_segment.specs.declared.LineSegment.{LineSegment}
-use Rattle.line_segment.specs.Piece.{pointOf, endOrder, HasLength}
+use Rattle.line_segment.specs.Piece.{pointOf, HasLength}
 use Rattle.line_segment.specs.Geometry.{LiesOn, side, run, rise}
-use Rattle.line_segment.proofs.Ahead.{Ahead, along-x, along-y, less-before}
+use Rattle.line_segment.proofs.Along.{Leads, rightward, upward, leads}
 use Rattle.place.specs.Demand.{InRange}
-use Rattle.place.proofs.Order.{NoLater, no-later, x-≤, y-≤}
+use Rattle.place.proofs.Order.{NoLater, no-later}
 use Rattle.place.proofs.Between.{Y-≤, Y-≥}
 
 -- ---- a size as two orders, times d
@@ -38,11 +38,11 @@ module _ (s : LineSegment) (p : Point) (on : LiesOn s p) where
 
   from-x : (s .min .x *ℤ pos (p .d)) ≤ℤ p .x
   unfolding pointOf
-  from-x = rw *ℤ-idr at (x-≤ from)
+  from-x = rw *ℤ-idr at (from .x)
 
   upto-x : p .x ≤ℤ (s .max .x *ℤ pos (p .d))
   unfolding pointOf
-  upto-x = rw *ℤ-idr at (x-≤ upto)
+  upto-x = rw *ℤ-idr at (upto .x)
 
   pub x-inside : InRange s → natAbs (p .x) ≤ 2 ^ 15 * p .d
   x-inside r = between (p .d) (r .min .x) (r .max .x) from-x upto-x
@@ -59,14 +59,14 @@ module _ (s : LineSegment) (p : Point) (on : LiesOn s p) where
   unfolding pointOf
   upright r e =
       let at-x : s .min .x *ℤ pos (p .d) ≡ p .x = ≤-antisym from-x (subst (λ (z : ℤ). p .x ≤ℤ (z *ℤ pos (p .d))) (sym e) upto-x) in
-      let from-y = y-≤ from (at-x ∙ sym (*ℤ-idr (p .x))) in
-      let upto-y = y-≤ upto (*ℤ-idr (p .x) ∙ sym at-x ∙ ap (λ (z : ℤ). z *ℤ pos (p .d)) e) in
+      let from-y = from .y (at-x ∙ sym (*ℤ-idr (p .x))) in
+      let upto-y = upto .y (*ℤ-idr (p .x) ∙ sym at-x ∙ ap (λ (z : ℤ). z *ℤ pos (p .d)) e) in
       between (p .d) (r .min .y) (r .max .y) (rw *ℤ-idr at from-y) (rw *ℤ-idr at upto-y)
 
   pub y-inside : InRange s → HasLength s → natAbs (p .y) ≤ 2 ^ 15 * p .d
-  unfolding pointOf endOrder
-  y-inside r h = go (less-before (pointOf (s .min)) (pointOf (s .max)) h .step)
+  unfolding run
+  y-inside r h = go (leads s h)
     where
-      go : Ahead (s .max .x *ℤ pos 1 -ℤ s .min .x *ℤ pos 1) (s .max .y *ℤ pos 1 -ℤ s .min .y *ℤ pos 1) → natAbs (p .y) ≤ 2 ^ 15 * p .d
-      go (along-x u) = sloped r (simp *ℤ-idr at u)
-      go (along-y e v) = upright r (diff-≡ (s .min .x) (s .max .x) (simp *ℤ-idr at e))
+      go : Leads s → natAbs (p .y) ≤ 2 ^ 15 * p .d
+      go (rightward u) = sloped r u
+      go (upward e _) = upright r (diff-≡ (s .min .x) (s .max .x) e)

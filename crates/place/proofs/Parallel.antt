@@ -10,7 +10,7 @@ use lib.IntN.{ℤ, pos, negsuc, _-ℤ_, _*ℤ_}
 use Rattle.integers.proofs.Ring.{*ℤ-idr}
 use Rattle.integers.proofs.Identity.{by-ring, terms}
 use Rattle.integers.proofs.Signs.{z+z, x*z, diff-≡}
-use Rattle.integers.proofs.Order.{≡-cert}
+use Rattle.integers.proofs.Order.{≡-cert, ≤-antisym}
 use Rattle.integers.proofs.Factors.{zero-product}
 use Rattle.orientation.specs.declared.Orientation.{Orientation}
 use Rattle.orientation.specs.declared.Orientation.the-variants.{CounterClockWise, ClockWise, CoLinear}
@@ -25,7 +25,7 @@ use Rattle.line_segment.specs.declared.Meeting.the-variants.{Nothing, Crossing,
 use Rattle.line_segment.specs.Geometry.{run, rise, admits}
 use Rattle.line_segment.specs.Piece.{pointOf, endOrder, joinBy, joinOf}
 use Rattle.line_segment.specs.Segment.{intersectOf, astrideOf, opposed, stretchBy, stretchOf, touchOf, turnTo, leftmostOf, rightmostOf, within, innerBetween}
-use Rattle.place.proofs.Order.{no-later, level}
+use Rattle.place.proofs.Order.{no-later}
 
 abbrev Crosses : Meeting → Type 0
 Crosses Nothing = ⊥
@@ -95,8 +95,11 @@ one-point c e f h t =
     let s = joinBy (endOrder e f) e f in
     let j = joined (endOrder e f) e f h in
     let u = both (admits (pointOrder (pointOf (s .min)) (pointOf c)) (s .min .included)) (admits (pointOrder (pointOf c) (pointOf (s .max))) (s .max .included)) t in
-    let l = level (no-later (pointOf e) (pointOf c) (s .min .included) (rw (j .0) at (u .0))) (no-later (pointOf c) (pointOf e) (s .max .included) (rw (j .1) at (u .1))) in
-    (sym (*ℤ-idr (e .x)) ∙ l .x ∙ *ℤ-idr (c .x), sym (*ℤ-idr (e .y)) ∙ l .y ∙ *ℤ-idr (c .y))
+    let there = no-later (pointOf e) (pointOf c) (s .min .included) (rw (j .0) at (u .0)) in
+    let back = no-later (pointOf c) (pointOf e) (s .max .included) (rw (j .1) at (u .1)) in
+    let x = ≤-antisym (there .x) (back .x) in
+    let y = ≤-antisym (there .y x) (back .y (sym x)) in
+    (sym (*ℤ-idr (e .x)) ∙ x ∙ *ℤ-idr (c .x), sym (*ℤ-idr (e .y)) ∙ y ∙ *ℤ-idr (c .y))
 
 at-end : (i j k l : ℤ) → det i j k l i j ≡ pos 0
 unfolding det
