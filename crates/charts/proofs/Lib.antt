@@ -1,6 +1,6 @@
 -- From another crate: `use Rattle.charts.proofs.FILE.{..}`.
 --   what is known of an accepted list              Accepted    accepted-most, pieces-as-given, pieces-have-length
---   the verdict where pairs are written down       Listing     listing-refused, listing-eight, listing-accepted
+--   the verdict where pairs are written down       Listing     listing-goes, listing-refused, listing-eight
 --   room, n(n-1), without a product                Room        room-more, room-below, room-least
 --   statements of specs/Demand                     Rows, Exactly, Listing, Ten, Accepted
 --   code: tests on signed numbers, casts           Numbers, Ranges

@@ -44,3 +44,10 @@ module _ (list : List ℤ) (lent : ℕ) where
 pub listing-refuses-exactly : ListingRefusesExactly
 unfolding listingOf
 listing-refuses-exactly list lent v = (λ e. subst (ListingDue list lent) e (due list lent (verdictOf list) refl), given list lent v)
+
+-- what is known where the listing goes ahead
+pub listing-goes : (list : List ℤ) (lent n : ℕ) → listingOf list lent ≡ Accepted n → (verdictOf list ≡ Accepted n) × (room n ≤ lent)
+listing-goes list lent n e = go (listing-refuses-exactly list lent (Accepted n) .0 e)
+  where
+    go : ListingDue list lent (Accepted n) → (verdictOf list ≡ Accepted n) × (room n ≤ lent)
+    go (listed n d h) = (refuses-exactly list (Accepted n) .1 d, h)

@@ -1,14 +1,12 @@
--- "It allows one result": stated of a function's own contract, as the check reads it (`Reads.Post`, with the parameters
--- and the result of `Kinds`), and of any two outcomes at the same arguments.
+-- "For each input .. it allows one result and one content of lent memory": stated of a function's own `ensures`, as the
+-- check reads it (`Reads.Post`), over its lifetimes κ, arguments a, results x and y, and parameters at exit s and t.
 use mathlib.Core.Path.{_≡_}
-use mathlib.Core.List.{List}
-use Prim.Native.Nat.{ℕ}
-use contract.Lifetimes.{Lfts}
-use denote.Triple.Clauses.{AtExit}
-use borrow.Fn.Kinds.{PK, RK, Dens, resT, endedOf, Out}
 
--- r and r′ are results, s and s′ the parameters at exit
-abbrev pub OneResult : (n : ℕ) (ps : List (PK n)) (k : RK n) → Out n ps k → Type 0
-OneResult n ps k Post =
-    (κs : Lfts n) (a : Dens κs ps) (r r′ : resT k κs .Denot) (s s′ : AtExit (endedOf n ps k) κs)
-    → Post κs a r s → Post κs a r′ s′ → r ≡ r′
+module _ {K : Type 0} {A R S : K → Type 0} (Ensures : (κ : K) → A κ → R κ → S κ → Type 0) where
+  abbrev pub OneResult : Type 0
+  OneResult = (κ : K) (a : A κ) (x y : R κ) (s t : S κ) → Ensures κ a x s → Ensures κ a y t → x ≡ y
+
+  -- `lent` reads what a parameter lent as `&mut` holds
+  abbrev pub OneOutcome : {M : Type 0} → ((κ : K) → S κ → M) → Type 0
+  OneOutcome lent =
+      (κ : K) (a : A κ) (x y : R κ) (s t : S κ) → Ensures κ a x s → Ensures κ a y t → (x ≡ y) × (lent κ s ≡ lent κ t)

@@ -1,7 +1,6 @@
 -- The pair calls: two pieces as ten numbers, and what is answered of them.
 use mathlib.Core.Bool.{cond, not}
 use mathlib.Core.List.{List}
-use Prim.Native.Nat.{ℕ}
 use lib.Dec.{eqb}
 use lib.IntN.{ℤ}
 use lib.ListN.{length}

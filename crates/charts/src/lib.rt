@@ -229,10 +229,11 @@ pub fn no_upright(list: &[i32], n: usize) -> bool
 pub fn pair_verdict_of(list: &[i32]) -> Verdict
     ensures { λ r. ⌜ r ≡ pairVerdictOf (now (list .entry)) ⌝ }
 {
-    if list.len() != 10 {
-        return Verdict::Refused(9, 0);
+    if list.len() == 10 {
+        verdict_of(list)
+    } else {
+        Verdict::Refused(9, 0)
     }
-    verdict_of(list)
 }
 
 // How the two pieces of ten numbers meet, the first one asking.

@@ -4,14 +4,14 @@ use Rattle.charts.proofs.Ten.{pair-nine, pair-list}
 use Rattle.charts.proofs.pair_verdict_of.Statement.{statement}
 use Rattle.charts.proofs.pair_verdict_of.Tie as tie
 
-returns : tie.Need-returns
-returns c = sym (pair-nine (c .before .args .list .now) (c .if1 .taken))
-
 verdict-of-requires : tie.Need-verdict-of-requires
 verdict-of-requires c κs = search needs
 
+returns : tie.Need-returns
+returns c = c .verdict-of .ensures ∙ sym (pair-list (c .before .before .args .list .now) (c .before .if1 .taken))
+
 returns-2 : tie.Need-returns-2
-returns-2 c = c .verdict-of .ensures ∙ sym (pair-list (c .before .before .args .list .now) (c .before .if1 .left))
+returns-2 c = sym (pair-nine (c .before .args .list .now) (c .if1 .left))
 
 pub pair-verdict-of-spec : {M : Type 1} → statement M
-pair-verdict-of-spec = tie.close (tie.spec returns verdict-of-requires returns-2)
+pair-verdict-of-spec = tie.close (tie.spec verdict-of-requires returns returns-2)

@@ -1,0 +1,11 @@
+-- The contract of `all_pairs` allows one answer and one content of the lent bytes.
+-- Assumes nothing.
+use mathlib.Core.Path.{sym, _∙_}
+use mathlib.Core.List.{List}
+use Prim.Native.Nat.{ℕ}
+use denote.Ref.{now}
+use Rattle.charts.specs.Outcome.{OneOutcome}
+use Rattle.naive.proofs.all_pairs.Reads as all-pairs
+
+pub all-pairs-once : OneOutcome all-pairs.Post (λ κ s. now (s .1 .0))
+all-pairs-once κ a x y s t h k = (h .0 ∙ sym (k .0), h .1 ∙ sym (k .1))

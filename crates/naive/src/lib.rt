@@ -1,0 +1,71 @@
+// All pairs of a chart that meet, after the Rust's naive.rs: for a from 0, for b below a.
+ghost use mathlib.Core.Path.{_≡_};
+ghost use Prim.Native.Nat.{_≤_};
+ghost use lib.ListN.{length, take};
+ghost use Rattle.line_segment.specs.Segment.{intersectOf};
+ghost use Rattle.line_segment.specs.Demand.{saysYes};
+ghost use Rattle.charts.specs.Chart.{most};
+ghost use Rattle.charts.specs.Answer.{room};
+ghost use Rattle.naive.specs.Pairs.{rows, bytes, over};
+ghost use Rattle.naive.specs.AllPairs.{allPairsOf, lentAfter};
+ghost use Rattle.naive.specs.Decoded.{piecesOf, meetsIn};
+use charts::Answer;
+use charts::MOST;
+use charts::Verdict;
+use line_segment::LineSegment;
+use line_segment::Meeting;
+
+// The pieces of a chart, each read from the list once.
+struct Pieces {
+    all: [LineSegment; MOST],
+}
+
+fn pieces_of(list: &[i32], n: usize) -> Pieces
+    requires { ⌜ n ≤ most ⌝ }
+    ensures { λ r. ⌜ take n (r .all) ≡ piecesOf (now (list .entry)) n ⌝ }
+{
+    let mut all = [line_segment::piece(0, 0, 0, 0, 0); MOST];
+    for i in 0..n {
+        all[i] = charts::piece_at(list, i);
+    }
+    Pieces { all }
+}
+
+fn meets(a: LineSegment, b: LineSegment) -> bool
+    ensures { λ r. ⌜ r ≡ saysYes (intersectOf a b) ⌝ }
+{
+    match line_segment::intersect(a, b) {
+        Meeting::Nothing => false,
+        Meeting::Crossing => true,
+        Meeting::Overlap(_) => true,
+    }
+}
+
+// The pairs that meet, greater number first, into the front of `pairs`; how many they are.
+fn list_pairs(pieces: Pieces, n: usize, pairs: &mut [u8]) -> usize
+    requires { ⌜ (n ≤ most) × (room n ≤ length (now pairs)) ⌝ }
+    ensures { λ r. ⌜ (r ≡ length (rows (meetsIn (pieces .all)) n)) × (now (pairs .exit) ≡ over (bytes (rows (meetsIn (pieces .all)) n)) (now (pairs .entry))) ⌝ }
+{
+    let all = pieces.all;
+    let mut k = 0;
+    for a in 0..n {
+        let asking = all[a];
+        for b in 0..a {
+            if meets(asking, all[b]) {
+                pairs[2 * k] = a as u8;
+                pairs[2 * k + 1] = b as u8;
+                k += 1;
+            }
+        }
+    }
+    k
+}
+
+pub fn all_pairs(list: &[i32], pairs: &mut [u8]) -> Answer
+    ensures { λ r. ⌜ (r ≡ allPairsOf (now (list .entry)) (length (now (pairs .entry)))) × (now (pairs .exit) ≡ lentAfter (now (list .entry)) (now (pairs .entry))) ⌝ }
+{
+    match charts::listing_of(list, pairs.len()) {
+        Verdict::Refused(number, place) => charts::refused(number, place),
+        Verdict::Accepted(n) => charts::done(list_pairs(pieces_of(list, n), n, pairs)),
+    }
+}
