@@ -76,9 +76,9 @@ module _ (e : EndPoint) (p : Point) {a b x y c d : ℤ} (h : a ≡ c *ℤ pos (p
   point-end-is = rw (h, k, f, g, u, v) (simp *ℤ-idr)
 
 -- ---- a point less an end
-module _ (x : ℤ) {y : ℤ} (h : natAbs x < 2 ^ 48) (k : Small 281474976710656 y) where
+module _ (x : ℤ) {y : ℤ} (h : natAbs x < 2 ^ 48) (k : Small (2 ^ 48) y) where
   abbrev reading : Mach (toZ w64 (ofZ w64 x) -ℤ toZ w64 (ofZ w64 y))
-  reading = m-add (m-back w64 {z = x} (m-small {A = 281474976710656} (record { small = le-of-lt h }))) (m-neg (m-back w64 (m-small k)))
+  reading = m-add (m-back w64 {z = x} (m-small {A = 2 ^ 48} (record { small = le-of-lt h }))) (m-neg (m-back w64 (m-small k)))
 
   pub offset-fits : SFits w64 (toZ w64 (ofZ w64 x) -ℤ toZ w64 (ofZ w64 y))
   offset-fits = m-fits reading tt

@@ -1,5 +1,7 @@
 -- Which file to open for which fact. From another crate: `use Rattle.line_segment.proofs.FILE.{..}`.
 --   the statements of specs/Demand, kept                     Promises      says-yes-exactly and its kin
+--   each contract allows one result                          Once
+--   the scope's examples, computed                           Examples
 --   what the test's parts answer, from a branch of the code  Answers       both-on, touch-yes, crossed
 --   what the parts of `contains` answer                      Holding       holds-between, in-bounds
 --   the order of ends by their coordinates                   Ends          end-order-is
@@ -14,6 +16,8 @@
 --   pieces of one line                                       Stretches     common-part
 --   pieces of lines that cross                               Crossings     lies-touch, astride-common
 pub mod Promises
+pub mod Once
+pub mod Examples
 pub mod Answers
 pub mod Holding
 pub mod Ends

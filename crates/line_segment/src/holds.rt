@@ -1,14 +1,4 @@
 // Whether a piece has a point X/D, Y/D: it is on the line through the ends, and between them.
-ghost use mathlib.Core.Path.{_≡_};
-ghost use Prim.Native.Nat.{_<_, _^_};
-ghost use lib.IntN.{pos, natAbs, _-ℤ_, _*ℤ_};
-ghost use Rattle.integers.specs.Size.{Small};
-ghost use Rattle.orientation.specs.Turn.{turnOf, isStraight};
-ghost use Rattle.fractions.specs.Point.{Bounded, pointOrder};
-ghost use Rattle.fractions.specs.Fraction.{above};
-ghost use Rattle.line_segment.specs.Piece.{pointOf};
-ghost use Rattle.line_segment.specs.Geometry.{side};
-ghost use Rattle.line_segment.specs.Segment.{innerBetween, inBounds, containsOf};
 use crate::EndPoint;
 use crate::LineSegment;
 use crate::allows;
@@ -20,14 +10,29 @@ use fractions::Fraction;
 use fractions::Order;
 use fractions::Point;
 use integers::size;
+ghost use mathlib.Core.Path.{_≡_};
+ghost use Prim.Native.Nat.{_<_, _^_};
+ghost use lib.IntN.{pos, natAbs, _-ℤ_, _*ℤ_};
+ghost use Rattle.integers.specs.Size.{Small};
+ghost use Rattle.orientation.specs.Turn.{turnOf, isStraight};
+ghost use Rattle.fractions.specs.Point.{Bounded, pointOrder};
+ghost use Rattle.fractions.specs.Fraction.{above};
+ghost use Rattle.line_segment.specs.Piece.{pointOf};
+ghost use Rattle.line_segment.specs.Geometry.{side};
+ghost use Rattle.line_segment.specs.Segment.{innerBetween, inBounds, containsOf};
+
+// 2^33 and 2^48: no crossing of two pieces of a chart reaches them.
+const D_LIMIT: u64 = 8589934592;
+
+const SIZE_LIMIT: u64 = 281474976710656;
 
 // Whether the numbers of a point are as small as those of a chart's points.
 fn in_bounds(p: Point) -> bool
     ensures { λ r. ⌜ r ≡ inBounds p ⌝ }
 {
-    if p.d < 8589934592 {
-        if size(p.x) < 281474976710656 {
-            size(p.y) < 281474976710656
+    if p.d < D_LIMIT {
+        if size(p.x) < SIZE_LIMIT {
+            size(p.y) < SIZE_LIMIT
         } else {
             false
         }
@@ -39,7 +44,7 @@ fn in_bounds(p: Point) -> bool
 // A coordinate of an end, over D.
 fn scaled(c: i16, d: u64) -> i64
     requires { ⌜ d < 2 ^ 33 ⌝ }
-    ensures { λ r. ⌜ (r ≡ c *ℤ pos d) × Small 281474976710656 r ⌝ }
+    ensures { λ r. ⌜ (r ≡ c *ℤ pos d) × Small (2 ^ 48) r ⌝ }
 {
     c as i64 * d as i64
 }
@@ -122,6 +127,7 @@ fn on_line(s: LineSegment, p: Point) -> bool
     same_product(run(s), v, rise(s), u)
 }
 
+// Whether a piece has a point: its numbers are those of a chart's point, it is on the line, and between the ends.
 pub fn contains(s: LineSegment, p: Point) -> bool
     ensures { λ r. ⌜ r ≡ containsOf s p ⌝ }
 {

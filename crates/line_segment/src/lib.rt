@@ -1,19 +1,21 @@
 // The pieces of a chart and where two of them meet, after the Rust's line_segment.rs: its names, and its cases in
 // its order. Coordinates are i16, so every function takes every value of its types.
-ghost use mathlib.Core.Path.{_≡_};
-ghost use Rattle.fractions.specs.Order.{order, andThen};
-ghost use Rattle.line_segment.specs.Piece.{pointOf, endOrder, joinOf, pieceOf};
-ghost use lib.IntN.{natAbs, _-ℤ_, _*ℤ_};
-ghost use Rattle.integers.specs.Size.{Small};
-ghost use Rattle.line_segment.specs.Geometry.{admits, run as runOf, rise as riseOf};
-ghost use Rattle.line_segment.specs.Segment.{exclusiveOf, leftmostOf, rightmostOf, innerBetween, stretchOf, touchOf, turnTo, opposed, astrideOf, intersectOf, moment as momentOf, over as overOf, cramerOf, crossingOf};
-
 mod holds;
 
 use fractions::Order;
 use fractions::Point;
 pub use holds::contains;
 use orientation::Orientation;
+ghost use mathlib.Core.Path.{_≡_};
+ghost use Prim.Native.Nat.{_^_};
+ghost use lib.IntN.{_-ℤ_, _*ℤ_};
+ghost use Rattle.integers.specs.Size.{Small};
+ghost use Rattle.fractions.specs.Order.{order, andThen};
+ghost use Rattle.line_segment.specs.Piece.{pointOf, endOrder, joinOf, pieceOf};
+ghost use Rattle.line_segment.specs.Geometry.{admits, run as runOf, rise as riseOf};
+ghost use Rattle.line_segment.specs.Segment.{exclusiveOf, leftmostOf, rightmostOf, innerBetween};
+ghost use Rattle.line_segment.specs.Segment.{stretchOf, touchOf, turnTo, opposed, astrideOf, intersectOf};
+ghost use Rattle.line_segment.specs.Segment.{moment as momentOf, over as overOf, cramerOf, crossingOf};
 
 // An end of a piece: its point, and whether the piece has that point.
 pub struct EndPoint {
@@ -53,7 +55,7 @@ fn pair_order(ax: i64, ay: i64, bx: i64, by: i64) -> Order
 }
 
 // Which of two ends comes first, by x, then y.
-pub fn end_order(a: EndPoint, b: EndPoint) -> Order
+fn end_order(a: EndPoint, b: EndPoint) -> Order
     ensures { λ r. ⌜ r ≡ endOrder a b ⌝ }
 {
     pair_order(a.x as i64, a.y as i64, b.x as i64, b.y as i64)
@@ -88,7 +90,7 @@ pub fn piece(kind: u8, x1: i16, y1: i16, x2: i16, y2: i16) -> LineSegment
 }
 
 // Of two ends at one point, the excluded one.
-pub fn exclusive(a: EndPoint, b: EndPoint) -> EndPoint
+fn exclusive(a: EndPoint, b: EndPoint) -> EndPoint
     ensures { λ r. ⌜ r ≡ exclusiveOf a b ⌝ }
 {
     if a.included { b } else { a }
@@ -116,8 +118,8 @@ pub fn rightmost(a: EndPoint, b: EndPoint) -> EndPoint
     }
 }
 
-// Whether a point may follow an end, or an end a point, in this order: at the end itself only where it is included.
-pub fn allows(o: Order, included: bool) -> bool
+// Whether an end lets a point stand in this order to it: at the end itself, only where it is included.
+fn allows(o: Order, included: bool) -> bool
     ensures { λ r. ⌜ r ≡ admits o included ⌝ }
 {
     match o {
@@ -138,7 +140,7 @@ pub fn inner_between(p: EndPoint, a: EndPoint, b: EndPoint) -> bool
 }
 
 // Two pieces of one line: the stretch from the rightmost min to the leftmost max.
-pub fn stretch(a: LineSegment, b: LineSegment) -> Meeting
+fn stretch(a: LineSegment, b: LineSegment) -> Meeting
     ensures { λ r. ⌜ r ≡ stretchOf a b ⌝ }
 {
     let left = rightmost(a.min, b.min);
@@ -161,7 +163,7 @@ pub fn stretch(a: LineSegment, b: LineSegment) -> Meeting
 }
 
 // An end of one piece on the line of another, s, which it meets there or nowhere.
-pub fn touch(e: EndPoint, s: LineSegment) -> Meeting
+fn touch(e: EndPoint, s: LineSegment) -> Meeting
     ensures { λ r. ⌜ r ≡ touchOf e s ⌝ }
 {
     if e.included && inner_between(e, s.min, s.max) {
@@ -172,7 +174,7 @@ pub fn touch(e: EndPoint, s: LineSegment) -> Meeting
 }
 
 // How an end lies to the line of a piece.
-pub fn turn_to(s: LineSegment, e: EndPoint) -> Orientation
+fn turn_to(s: LineSegment, e: EndPoint) -> Orientation
     ensures { λ r. ⌜ r ≡ turnTo s e ⌝ }
 {
     let from = s.min;
@@ -181,14 +183,14 @@ pub fn turn_to(s: LineSegment, e: EndPoint) -> Orientation
 }
 
 // Whether two ends lie on opposite sides.
-pub fn opposite(o: Orientation, p: Orientation) -> bool
+fn opposite(o: Orientation, p: Orientation) -> bool
     ensures { λ r. ⌜ r ≡ opposed o p ⌝ }
 {
     orientation::same(o, orientation::reverse(p))
 }
 
 // No end of b on the line of a; `astride` says whether its ends lie on opposite sides of it.
-pub fn cross(astride: bool, a: LineSegment, b: LineSegment) -> Meeting
+fn cross(astride: bool, a: LineSegment, b: LineSegment) -> Meeting
     ensures { λ r. ⌜ r ≡ astrideOf astride a b ⌝ }
 {
     let from = turn_to(b, a.min);
@@ -225,7 +227,7 @@ pub fn intersect(a: LineSegment, b: LineSegment) -> Meeting
 
 // From end to end along x.
 pub fn run(s: LineSegment) -> i64
-    ensures { λ r. ⌜ (r ≡ runOf s) × Small 65536 r ⌝ }
+    ensures { λ r. ⌜ (r ≡ runOf s) × Small (2 ^ 16) r ⌝ }
 {
     let from = s.min;
     let to = s.max;
@@ -234,7 +236,7 @@ pub fn run(s: LineSegment) -> i64
 
 // From end to end along y.
 pub fn rise(s: LineSegment) -> i64
-    ensures { λ r. ⌜ (r ≡ riseOf s) × Small 65536 r ⌝ }
+    ensures { λ r. ⌜ (r ≡ riseOf s) × Small (2 ^ 16) r ⌝ }
 {
     let from = s.min;
     let to = s.max;
@@ -242,18 +244,18 @@ pub fn rise(s: LineSegment) -> i64
 }
 
 // The line of a piece is rise * x - run * y = moment.
-pub fn moment(s: LineSegment) -> i64
-    ensures { λ r. ⌜ (r ≡ momentOf s) × Small 2147483648 r ⌝ }
+fn moment(s: LineSegment) -> i64
+    ensures { λ r. ⌜ (r ≡ momentOf s) × Small (2 ^ 31) r ⌝ }
 {
     let from = s.min;
     let to = s.max;
     from.x as i64 * to.y as i64 - to.x as i64 * from.y as i64
 }
 
-// X, Y over D with D positive.
+// X, Y over D, turned so that D is not below 0.
 fn over(x: i64, y: i64, d: i64) -> Point
-    requires { ⌜ Small 281474976710656 x ⌝ }
-    requires { ⌜ Small 281474976710656 y ⌝ }
+    requires { ⌜ Small (2 ^ 48) x ⌝ }
+    requires { ⌜ Small (2 ^ 48) y ⌝ }
     ensures { λ r. ⌜ r ≡ overOf x y d ⌝ }
 {
     if d < 0 {
@@ -271,13 +273,13 @@ fn over(x: i64, y: i64, d: i64) -> Point
     }
 }
 
-// The determinant of two columns, p over q and u over v; the second column may hold moments.
+// The determinant of p over q beside u over v, of which u and v may be moments.
 fn minor(p: i64, q: i64, u: i64, v: i64) -> i64
-    requires { ⌜ Small 65536 p ⌝ }
-    requires { ⌜ Small 65536 q ⌝ }
-    requires { ⌜ Small 2147483648 u ⌝ }
-    requires { ⌜ Small 2147483648 v ⌝ }
-    ensures { λ r. ⌜ (r ≡ p *ℤ v -ℤ q *ℤ u) × Small 281474976710656 r ⌝ }
+    requires { ⌜ Small (2 ^ 16) p ⌝ }
+    requires { ⌜ Small (2 ^ 16) q ⌝ }
+    requires { ⌜ Small (2 ^ 31) u ⌝ }
+    requires { ⌜ Small (2 ^ 31) v ⌝ }
+    ensures { λ r. ⌜ (r ≡ p *ℤ v -ℤ q *ℤ u) × Small (2 ^ 48) r ⌝ }
 {
     p * v - q * u
 }
