@@ -1,4 +1,14 @@
--- From the facts of geometry to the promises: Theorem holds the strong statement, Promises what follows from it.
+-- Which file to open for which fact. From another crate: `use Rattle.sweep.proofs.FILE.{..}`.
+--   every promise, from the facts of geometry        Promises    promises
+--   what holds on every chart                        Always      always
+--   the strong statement                             Theorem     sweeps
+--   whatever the geometry: runs add up, lists grow   Runs        runs-on, lists-on, steps-visited
+--   one step                                         Stepped     step-inv; Reported, Examined: what it lists, what waits
+--   what holds between steps, no crossing is missed  Between     Inv, no-crossing; Neighbours, Next
+--   the first common point                           First       first-on, first-least
+--   points by their keys; which points occur         Ranked      less-true, same-true; Occurring: occurs-out
+--   the points in order                              Ascending   points-up
+--   lists                                            Lists, Sorting, Pairs, Least; Tests for Booleans
 pub mod Tests
 pub mod Lists
 pub mod Sorting

@@ -1,21 +1,20 @@
 -- The pieces of an accepted list are proper; where its test for upright pieces finds none, none is.
-use mathlib.Core.Path.{_≡_, refl, sym, ap, _∙_, subst}
-use mathlib.Core.Logic.{_⊎_, inl, inr, ⊎-elim}
-use mathlib.Core.Bool.{Bool, true, false, cond}
+use mathlib.Core.Path.{_≡_, refl}
+use mathlib.Core.Logic.{inl, inr, ⊎-elim}
+use mathlib.Core.Bool.{true, false}
 use mathlib.Core.List.{List}
-use Prim.Native.Nat.{ℕ, _<_}
+use Prim.Native.Nat.{ℕ}
 use native.Mathlib.Omega.{arith}
-use lib.IntN.{ℤ, pos, negℤ}
+use lib.IntN.{ℤ, negℤ}
 use Rattle.integers.specs.Size.{Small}
-use Rattle.integers.proofs.Order.{≮→≥, <→≢}
+use Rattle.integers.proofs.Order.{≮→≥}
 use Rattle.integers.proofs.Sizes.{small-of}
-use Rattle.fractions.specs.Order.{order}
 use Rattle.fractions.specs.declared.Order.{Order}
 use Rattle.fractions.specs.declared.Order.the-variants.{Less, Equal, Greater}
 use Rattle.fractions.proofs.Orders.{Answer, is-less, is-equal, is-greater, answer}
 use Rattle.line_segment.specs.declared.EndPoint.{EndPoint}
 use Rattle.line_segment.specs.declared.LineSegment.{LineSegment}
-use Rattle.line_segment.specs.Piece.{endOrder, joinBy, joinOf, pieceOf}
+use Rattle.line_segment.specs.Piece.{joinBy, joinOf, pieceOf}
 use Rattle.line_segment.specs.Demand.{OnChart}
 use Rattle.charts.specs.Fault.{range, outside, eqZ}
 use Rattle.charts.specs.Chart.{verdictOf}
@@ -28,7 +27,6 @@ use Rattle.charts.proofs.Upright.{upright-found}
 use Rattle.sweep.specs.Ported.{isEqual, isUpright}
 use Rattle.sweep.proofs.Tests.{ask, clash}
 use Rattle.sweep_geometry.specs.Demand.{AllProper, NoneUpright, ListSweeps}
-use Rattle.sweep_geometry.proofs.Asked.{Asked}
 use Rattle.sweep_geometry.proofs.Promises.{ported-sweeps}
 
 small : (v : ℤ) → Small 32767 (coordinateOf v)
@@ -70,5 +68,5 @@ list-flat list n e i h =
     (λ (t : isUpright (pieceAt list i) ≡ false). t)
     (ask (isUpright (pieceAt list i)))
 
-pub list-sweeps : Asked → ListSweeps
-list-sweeps T list n e f = ported-sweeps T n (pieceAt list) (list-proper list n e) (list-flat list n f)
+pub list-sweeps : ListSweeps
+list-sweeps list n e f = ported-sweeps n (pieceAt list) (list-proper list n e) (list-flat list n f)

@@ -1,12 +1,11 @@
 -- The starred examples of the sweep, computed on the definitions.
 use mathlib.Core.Path.{_≡_, refl}
-use mathlib.Core.Bool.{Bool, true, false, cond}
+use mathlib.Core.Bool.{true, false, cond}
 use mathlib.Core.List.{List, [], _∷_}
 use mathlib.Core.Option.{some, none}
 use Prim.Native.Nat.{ℕ}
 use lib.Dec.{eqb}
-use lib.IntN.{ℤ, pos, negsuc}
-use Rattle.integers.specs.Order.{three}
+use lib.IntN.{pos, negsuc}
 use Rattle.fractions.specs.Order.{order}
 use Rattle.fractions.specs.Fraction.{ratioOrder}
 use Rattle.fractions.specs.Divisor.{euclid, gcdOf}

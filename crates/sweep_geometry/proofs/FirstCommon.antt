@@ -14,17 +14,17 @@ use Rattle.line_segment.specs.Piece.{pointOf, HasLength}
 use Rattle.line_segment.specs.Geometry.{run, rise}
 use Rattle.line_segment.specs.Segment.{moment, over, cramerOf, crossingOf}
 use Rattle.line_segment.specs.Demand.{OnlyPoint}
+use Rattle.line_segment.proofs.Promises.{crossing-is-cramers}
+use Rattle.line_segment.proofs.Lying.{whole, closed-line, closed-from, lies-closed}
+use Rattle.line_segment.proofs.Sides.{tilt, one-point}
 use Rattle.sweep.specs.Chart.{crosses, overlaps, kind, at}
 use Rattle.sweep.specs.Ported.{isLess, ported}
 use Rattle.sweep.specs.Sought.{later, first}
 use Rattle.sweep.proofs.Tests.{ask}
 use Rattle.sweep.proofs.First.{meets-two, first-crosses, first-overlaps}
 use Rattle.sweep_geometry.specs.Demand.{LeastCommon, FirstIsLeast}
-use Rattle.sweep_geometry.proofs.Asked.{Asked}
 use Rattle.sweep_geometry.proofs.Comparisons.{never}
-use Rattle.sweep_geometry.proofs.Gap.{tilt, one-point}
-use Rattle.sweep_geometry.proofs.Inside.{whole, On, on-line, on-from, on-closed, closed-on, lies-on}
-use Rattle.sweep_geometry.proofs.Supply.{kind-crosses, overlap-on}
+use Rattle.sweep_geometry.proofs.Supply.{kind-crosses, On, overlap-on}
 
 -- over 0 there is no point
 over-zero : (x y z : ℤ) → z ≡ pos 0 → (over x y z) .d ≡ 0
@@ -44,13 +44,13 @@ module _ (a b : LineSegment) where
       record {
         common = record {
           positive = m .common .positive;
-          first = closed-on a c (lies-on a c (m .common .first));
-          second = closed-on b c (lies-on b c (m .common .second));
+          first = lies-closed a c (m .common .first);
+          second = lies-closed b c (m .common .second);
         };
         least = λ q k g.
             never
-            (one-point a b c q (λ e. omega (arith, no-tilt a b e, m .common .positive)) (m .common .first .line) (m .common .second .line)
-            (on-line a q (on-closed a q (k .first))) (on-line b q (on-closed b q (k .second))))
+            (one-point a b (λ e. omega (arith, no-tilt a b e, m .common .positive)) c q (m .common .first .line) (m .common .second .line)
+            (closed-line a q (k .first)) (closed-line b q (k .second)))
             g (omega arith);
       }
 
@@ -58,25 +58,25 @@ module _ (a b : LineSegment) where
   least-later : (p : Point) → 0 < p .d → On a p → On b p → (p ≡ pointOf (a .min)) ⊎ (p ≡ pointOf (b .min)) → LeastCommon a b p
   least-later p d oa ob which =
       record {
-        common = record { positive = d; first = closed-on a p oa; second = closed-on b p ob };
+        common = record { positive = d; first = oa; second = ob };
         least = λ q k. ⊎-elim
-            (λ (e : p ≡ pointOf (a .min)). subst (λ (z : Point). ¬ (pointOrder z q ≡ Greater)) (sym e) (on-from a q (on-closed a q (k .first))))
-            (λ (e : p ≡ pointOf (b .min)). subst (λ (z : Point). ¬ (pointOrder z q ≡ Greater)) (sym e) (on-from b q (on-closed b q (k .second))))
+            (λ (e : p ≡ pointOf (a .min)). subst (λ (z : Point). ¬ (pointOrder z q ≡ Greater)) (sym e) (closed-from a q (k .first)))
+            (λ (e : p ≡ pointOf (b .min)). subst (λ (z : Point). ¬ (pointOrder z q ≡ Greater)) (sym e) (closed-from b q (k .second)))
             which;
       }
 
-pub first-is-least : Asked → FirstIsLeast
+pub first-is-least : FirstIsLeast
 unfolding later
-first-is-least T n piece ok q v e =
+first-is-least n piece ok q v e =
     let a : LineSegment = piece (q .0) in
     let b : LineSegment = piece (q .1) in
     let la : HasLength a = ok (q .0) (omega arith) .length in
     let lb : HasLength b = ok (q .1) (v .1) .length in
     ⊎-elim
     (λ (k : kind (ported n piece) q ≡ crosses).
-    rw (first-crosses (ported n piece) q k) (least-crossing a b ((T .cramers a b la lb (kind-crosses _ k)) .1)))
+    rw (first-crosses (ported n piece) q k) (least-crossing a b ((crossing-is-cramers a b la lb (kind-crosses _ k)) .1)))
     (λ (k : kind (ported n piece) q ≡ overlaps).
-    let o = overlap-on T a b la lb k in
+    let o = overlap-on a b la lb k in
     rw (first-overlaps (ported n piece) q k)
     (⊎-elim
     (λ (h : isLess (pointOrder (pointOf (a .min)) (pointOf (b .min))) ≡ true). rw h (least-later a b (pointOf (b .min)) (whole (b .min)) (rw h at (o .0)) (rw h at (o .1)) (inr refl)))

@@ -5,7 +5,7 @@ use mathlib.Core.Logic.{_≢_}
 use mathlib.Core.Bool.{true, false}
 use mathlib.Core.List.{[], _∷_}
 use Prim.Native.Nat.{ℕ, _<_}
-use lib.IntN.{ℤ, pos, _-ℤ_, _*ℤ_}
+use lib.IntN.{ℤ, pos, _+ℤ_, _-ℤ_, _*ℤ_}
 use lib.Signed.{_<ℤ_, ltZ-yes}
 use Rattle.integers.proofs.Identity.{by-ring, terms}
 use Rattle.integers.proofs.Signs.{<-diff, p*p}
@@ -18,17 +18,23 @@ use Rattle.fractions.specs.declared.Point.{Point}
 use Rattle.fractions.proofs.Orders.{Answer, is-less, is-equal, is-greater, answer, order-less, order-equal, order-greater}
 use Rattle.line_segment.specs.declared.LineSegment.{LineSegment}
 use Rattle.line_segment.specs.Geometry.{run, rise}
+use Rattle.line_segment.specs.Segment.{moment}
+use Rattle.line_segment.proofs.Along.{Leads, rightward, upward}
+use Rattle.line_segment.proofs.Sides.{tilt}
 use Rattle.sweep.specs.Ported.{isLess, heightAbove, heightBelow, heightOrder, slopeOrder, rankOrder}
 use Rattle.sweep_geometry.specs.Full.{fullAbove, fullBelow, fullHeightOrder, fullOrder}
 use Rattle.sweep_geometry.proofs.Comparisons.{Orders, order-scaled, fraction-orders}
 use Rattle.sweep_geometry.proofs.Ranking.{rank-irr, rank-trans, rank-total}
-use Rattle.sweep_geometry.proofs.Slopes.{Lie, sloped, standing, sloped-not, standing-is}
-use Rattle.sweep_geometry.proofs.Gap.{tilt, gap, slope-tilt, sloped-above, gap-heights}
+use Rattle.sweep_geometry.proofs.Slopes.{sloped-not, standing-is}
+use Rattle.sweep_geometry.proofs.Gap.{height, gap, slope-tilt, gap-heights}
 
 module _ (s : LineSegment) (p : Point) where
-  pub above-sloped : pos 0 <ℤ run s → fullAbove s p ≡ sloped-above s p
-  unfolding fullAbove heightAbove
-  above-sloped h = rw (sloped-not s h)
+  pub above-sloped : pos 0 <ℤ run s → fullAbove s p ≡ height s p
+  unfolding fullAbove heightAbove rise moment
+  above-sloped h = rw (sloped-not s h) (level₀ (s .min .x) (s .min .y) (s .max .x) (s .max .y) (p .x) (pos (p .d)))
+    where
+      level₀ : (x y x2 y2 X D : ℤ) → y *ℤ (x2 *ℤ D -ℤ X) +ℤ y2 *ℤ (X -ℤ x *ℤ D) ≡ (y2 -ℤ y) *ℤ X -ℤ (x *ℤ y2 -ℤ x2 *ℤ y) *ℤ D
+      level₀ x y x2 y2 X D = by-ring (x ∷ y ∷ x2 ∷ y2 ∷ X ∷ D ∷ []) (search terms depth 60 fits 20000) tt
 
   pub below-sloped : pos 0 <ℤ run s → fullBelow s p ≡ run s *ℤ pos (p .d)
   unfolding fullBelow heightBelow
@@ -42,13 +48,13 @@ module _ (s : LineSegment) (p : Point) where
   unfolding fullBelow
   below-standing e = rw (standing-is s e)
 
-  below-up : 0 < p .d → Lie s → pos 0 <ℤ fullBelow s p
-  below-up d (sloped h) = rw (below-sloped h) (p*p h (pos-< d))
-  below-up d (standing e k) = rw (below-standing e) (pos-< d)
+  below-up : 0 < p .d → Leads s → pos 0 <ℤ fullBelow s p
+  below-up d (rightward h) = rw (below-sloped h) (p*p h (pos-< d))
+  below-up d (upward e k) = rw (below-standing e) (pos-< d)
 
 -- ---- the two orders of the active list
 module _ (p : Point) where
-  full-heights : 0 < p .d → Orders Lie (fullHeightOrder p)
+  full-heights : 0 < p .d → Orders Leads (fullHeightOrder p)
   unfolding fullHeightOrder
   full-heights d = fraction-orders (λ s. fullAbove s p) (λ s. fullBelow s p) (λ s l. below-up s p d l)
 
@@ -56,12 +62,12 @@ module _ (p : Point) where
   unfolding fullHeightOrder
   full-even s = order-equal refl
 
-  ported-up : 0 < p .d → (s : LineSegment) → Lie s → pos 0 <ℤ heightBelow s p
+  ported-up : 0 < p .d → (s : LineSegment) → Leads s → pos 0 <ℤ heightBelow s p
   unfolding heightBelow
-  ported-up d s (sloped h) = rw (sloped-not s h) (p*p h (pos-< d))
-  ported-up d s (standing e k) = rw (standing-is s e) (ltZ-yes tt)
+  ported-up d s (rightward h) = rw (sloped-not s h) (p*p h (pos-< d))
+  ported-up d s (upward e k) = rw (standing-is s e) (ltZ-yes tt)
 
-  ported-heights : 0 < p .d → Orders Lie (heightOrder p)
+  ported-heights : 0 < p .d → Orders Leads (heightOrder p)
   unfolding heightOrder
   ported-heights d = fraction-orders (λ s. heightAbove s p) (λ s. heightBelow s p) (ported-up d)
 
@@ -78,8 +84,8 @@ module _ (piece : ℕ → LineSegment) (p : Point) where
   unfolding rankOrder
   ported-irr = rank-irr piece (heightOrder p) (ported-even p)
 
-  module _ (d : 0 < p .d) (i j : ℕ) (a : Lie (piece i)) (b : Lie (piece j)) where
-    pub full-trans : (k : ℕ) → Lie (piece k) → isLess (fullOrder piece p i j) ≡ true → isLess (fullOrder piece p j k) ≡ true → isLess (fullOrder piece p i k) ≡ true
+  module _ (d : 0 < p .d) (i j : ℕ) (a : Leads (piece i)) (b : Leads (piece j)) where
+    pub full-trans : (k : ℕ) → Leads (piece k) → isLess (fullOrder piece p i j) ≡ true → isLess (fullOrder piece p j k) ≡ true → isLess (fullOrder piece p i k) ≡ true
     unfolding fullOrder
     full-trans = rank-trans piece (fullHeightOrder p) (full-heights p d) i j a b
 
@@ -87,7 +93,7 @@ module _ (piece : ℕ → LineSegment) (p : Point) where
     unfolding fullOrder
     full-total = rank-total piece (fullHeightOrder p) (full-heights p d) i j a b
 
-    pub ported-trans : (k : ℕ) → Lie (piece k) → isLess (rankOrder piece p i j) ≡ true → isLess (rankOrder piece p j k) ≡ true → isLess (rankOrder piece p i k) ≡ true
+    pub ported-trans : (k : ℕ) → Leads (piece k) → isLess (rankOrder piece p i j) ≡ true → isLess (rankOrder piece p j k) ≡ true → isLess (rankOrder piece p i k) ≡ true
     unfolding rankOrder
     ported-trans = rank-trans piece (heightOrder p) (ported-heights p d) i j a b
 

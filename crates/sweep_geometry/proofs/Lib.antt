@@ -1,10 +1,21 @@
+-- Which file to open for which fact. From another crate: `use Rattle.sweep_geometry.proofs.FILE.{..}`.
+--   the statements of specs/Demand, kept             Promises, Accepted, FirstCommon
+--   the record `Geometry` of sweep                   Supply       geometry, points-ordered, reduced
+--   the scope's examples, computed                   Examples
+--   of three pieces the middle one                   Squeeze      squeeze
+--   two pieces that have turned round cross          Turning      turning, cross-in
+--   upright pieces, and points of one x              Uprights     standing-x, higher, lower
+--   the active list's order: strict and total        Heights      full-trans, full-total, ported-trans, ported-total
+--   .. whatever the height                           Ranking      rank-trans, rank-total
+--   how much higher one piece is than another        Gap          gap, gap-first, gap-second
+--   the order of slopes                              Slopes       slope-orders
+--   comparisons that order                           Comparisons  fraction-orders, then-orders, order-scaled
 pub mod Comparisons
 pub mod Gap
 pub mod Slopes
 pub mod Ranking
 pub mod Heights
-pub mod Inside
-pub mod Asked
+pub mod Points
 pub mod Turning
 pub mod Uprights
 pub mod Squeeze

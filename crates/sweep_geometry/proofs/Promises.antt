@@ -10,7 +10,6 @@ use Rattle.sweep.proofs.Promises.{promises}
 use Rattle.sweep.proofs.Always.{always}
 use Rattle.sweep_geometry.specs.Full.{fullAbove, fullBelow, fullHeightOrder, fullOrder, full}
 use Rattle.sweep_geometry.specs.Demand.{PortedSweeps, PortedAlways, FullSweeps}
-use Rattle.sweep_geometry.proofs.Asked.{Asked}
 use Rattle.sweep_geometry.proofs.Heights.{full-irr, ported-irr}
 use Rattle.sweep_geometry.proofs.Supply.{points-ordered, geometry}
 
@@ -29,14 +28,14 @@ module _ (piece : ℕ → LineSegment) (p : Point) where
   unfolding fullOrder rankOrder fullHeightOrder heightOrder
   same-order i j e f = rw (same-above (piece i) p e, same-above (piece j) p f, same-below (piece i) p e, same-below (piece j) p f)
 
-pub full-sweeps : Asked → FullSweeps
-full-sweeps T n piece ok =
-    promises (full n piece) (geometry T n piece ok (λ p i j. isLess (fullOrder piece p i j)) (full-irr piece) (λ p i j hi hj. refl))
+pub full-sweeps : FullSweeps
+full-sweeps n piece ok =
+    promises (full n piece) (geometry n piece ok (λ p i j. isLess (fullOrder piece p i j)) (full-irr piece) (λ p i j hi hj. refl))
 
-pub ported-sweeps : Asked → PortedSweeps
-ported-sweeps T n piece ok flat =
+pub ported-sweeps : PortedSweeps
+ported-sweeps n piece ok flat =
     promises (ported n piece)
-    (geometry T n piece ok (λ p i j. isLess (rankOrder piece p i j)) (ported-irr piece) (λ p i j hi hj. ap isLess (same-order piece p i j (flat i hi) (flat j hj))))
+    (geometry n piece ok (λ p i j. isLess (rankOrder piece p i j)) (ported-irr piece) (λ p i j hi hj. ap isLess (same-order piece p i j (flat i hi) (flat j hj))))
 
-pub ported-always : Asked → PortedAlways
-ported-always T n piece ok = always (ported n piece) (points-ordered T n piece ok (λ p i j. isLess (rankOrder piece p i j)))
+pub ported-always : PortedAlways
+ported-always n piece ok = always (ported n piece) (points-ordered n piece ok (λ p i j. isLess (rankOrder piece p i j)))

@@ -11,10 +11,11 @@ use Rattle.fractions.specs.declared.Order.the-variants.{Less, Equal, Greater}
 use Rattle.fractions.proofs.Orders.{order-equal, equal-order}
 use Rattle.line_segment.specs.declared.LineSegment.{LineSegment}
 use Rattle.line_segment.specs.Geometry.{run, rise}
+use Rattle.line_segment.proofs.Along.{Leads}
 use Rattle.sweep.specs.Ported.{isLess, slopeOrder}
 use Rattle.sweep.proofs.Tests.{clash}
 use Rattle.sweep_geometry.proofs.Comparisons.{Said, said-less, said-equal, said-greater, say, then-equal, Orders, then-orders, number-orders}
-use Rattle.sweep_geometry.proofs.Slopes.{Lie, slope-orders}
+use Rattle.sweep_geometry.proofs.Slopes.{slope-orders}
 
 pub less-is : (o : Order) → isLess o ≡ true → o ≡ Less
 less-is Less e = refl
@@ -34,8 +35,8 @@ module _ (piece : ℕ → LineSegment) (height : LineSegment → LineSegment →
       let h = then-equal (height (piece i) (piece j)) (andThen (slopeOrder (piece i) (piece j)) (order (pos i) (pos j))) e in
       pos-injective (equal-order (pos i) (pos j) ((then-equal (slopeOrder (piece i) (piece j)) (order (pos i) (pos j)) (h .1)) .1))
 
-  module _ (H : Orders Lie height) where
-    numbered : {f : LineSegment → LineSegment → Order} → Orders Lie f → Orders (λ i. Lie (piece i)) (λ i j. f (piece i) (piece j))
+  module _ (H : Orders Leads height) where
+    numbered : {f : LineSegment → LineSegment → Order} → Orders Leads f → Orders (λ i. Leads (piece i)) (λ i j. f (piece i) (piece j))
     numbered F =
         record {
           turns = λ i j a b. F .turns (piece i) (piece j) a b;
@@ -43,11 +44,11 @@ module _ (piece : ℕ → LineSegment) (height : LineSegment → LineSegment →
           chain = λ i j k a b c. F .chain (piece i) (piece j) (piece k) a b c;
         }
 
-    rank-orders : Orders (λ i. Lie (piece i)) rank
+    rank-orders : Orders (λ i. Leads (piece i)) rank
     rank-orders = then-orders (numbered H) (then-orders (numbered slope-orders) number-orders)
 
-    module _ (i j : ℕ) (a : Lie (piece i)) (b : Lie (piece j)) where
-      pub rank-trans : (k : ℕ) → Lie (piece k) → isLess (rank i j) ≡ true → isLess (rank j k) ≡ true → isLess (rank i k) ≡ true
+    module _ (i j : ℕ) (a : Leads (piece i)) (b : Leads (piece j)) where
+      pub rank-trans : (k : ℕ) → Leads (piece k) → isLess (rank i j) ≡ true → isLess (rank j k) ≡ true → isLess (rank i k) ≡ true
       rank-trans k c e f = ap isLess (rank-orders .chain i j k a b c (less-is (rank i j) e) (less-is (rank j k) f))
 
       pub rank-total : i ≢ j → isLess (rank i j) ≡ false → isLess (rank j i) ≡ true

@@ -1,4 +1,4 @@
--- A piece of some length is sloped or upright; the order of slopes, in which an upright piece is the steepest.
+-- The order of slopes, in which an upright piece is the steepest.
 use mathlib.Core.Path.{_≡_, refl, sym, ap, _∙_}
 use mathlib.Core.Bool.{true, false}
 use mathlib.Core.List.{[], _∷_}
@@ -6,35 +6,15 @@ use native.Mathlib.Omega.{arith}
 use lib.IntN.{ℤ, pos, _-ℤ_, _*ℤ_}
 use lib.Signed.{_<ℤ_}
 use Rattle.integers.proofs.Identity.{by-ring, terms}
-use Rattle.integers.proofs.Signs.{<-diff, diff-<, p*p}
-use Rattle.fractions.specs.Order.{turned, andThen}
-use Rattle.fractions.specs.declared.Order.{Order}
+use Rattle.integers.proofs.Signs.{diff-<, p*p}
+use Rattle.fractions.specs.Order.{turned}
 use Rattle.fractions.specs.declared.Order.the-variants.{Less, Equal, Greater}
-use Rattle.fractions.proofs.Orders.{Answer, is-less, is-equal, is-greater, answer, order-less, order-equal, order-greater, order-turned}
+use Rattle.fractions.proofs.Orders.{order-less, order-equal, order-greater, order-turned}
 use Rattle.line_segment.specs.declared.LineSegment.{LineSegment}
-use Rattle.line_segment.specs.Piece.{HasLength}
 use Rattle.line_segment.specs.Geometry.{run, rise}
-use Rattle.line_segment.proofs.Ends.{end-order-is}
+use Rattle.line_segment.proofs.Along.{Leads, rightward, upward}
 use Rattle.sweep.specs.Ported.{isEqual, isUpright, slopeOrder}
 use Rattle.sweep_geometry.proofs.Comparisons.{Orders, fraction-orders, never}
-
-pub data Lie (s : LineSegment) : Type 0 where
-  sloped : pos 0 <ℤ run s → Lie s
-  standing : run s ≡ pos 0 → pos 0 <ℤ rise s → Lie s
-
-zero-diff : {a b : ℤ} → a ≡ b → b -ℤ a ≡ pos 0
-zero-diff {a} {b} e = rw e (by-ring (b ∷ []) (search terms depth 60 fits 20000) tt)
-
-pub lie : (s : LineSegment) → HasLength s → Lie s
-unfolding run rise
-lie s h = go (answer (s .min .x) (s .max .x)) (answer (s .min .y) (s .max .y)) (sym (end-order-is (s .min) (s .max)) ∙ h)
-  where
-    go : {o r : Order} → Answer (s .min .x) (s .max .x) o → Answer (s .min .y) (s .max .y) r → andThen o r ≡ Less → Lie s
-    go (is-less x) y e = sloped (<-diff x)
-    go (is-equal x) (is-less y) e = standing (zero-diff x) (<-diff y)
-    go (is-equal x) (is-equal y) e = never refl e (omega arith)
-    go (is-equal x) (is-greater y) e = never refl e (omega arith)
-    go (is-greater x) y e = never refl e (omega arith)
 
 pub sloped-not : (s : LineSegment) → pos 0 <ℤ run s → isUpright s ≡ false
 unfolding isUpright run
@@ -71,24 +51,24 @@ sloped-orders : Orders Sloped slopeOrder
 unfolding slopeOrder
 sloped-orders = fraction-orders rise run (λ s h. h)
 
-pub slope-orders : Orders Lie slopeOrder
+pub slope-orders : Orders Leads slopeOrder
 slope-orders = record { turns = turns; alike = alike; chain = chain }
   where
-    turns : (a b : LineSegment) → Lie a → Lie b → slopeOrder b a ≡ turned (slopeOrder a b)
+    turns : (a b : LineSegment) → Leads a → Leads b → slopeOrder b a ≡ turned (slopeOrder a b)
     turns a b la lb = unfold slopeOrder in order-turned (rise a *ℤ run b) (rise b *ℤ run a)
 
-    alike : (a b c : LineSegment) → Lie a → Lie b → Lie c → slopeOrder a b ≡ Equal → slopeOrder a c ≡ slopeOrder b c
-    alike a b c (sloped h) (sloped k) (sloped l) e = sloped-orders .alike a b c h k l e
-    alike a b c (sloped h) (sloped k) (standing m n) e = slope-up a c h m n ∙ sym (slope-up b c k m n)
-    alike a b c (sloped h) (standing k l) lc e = never (slope-up a b h k l) e (omega arith)
-    alike a b c (standing h i) (sloped k) lc e = never (slope-down a b h i k) e (omega arith)
-    alike a b c (standing h i) (standing k l) (sloped m) e = slope-down a c h i m ∙ sym (slope-down b c k l m)
-    alike a b c (standing h i) (standing k l) (standing m n) e = slope-even a c h m ∙ sym (slope-even b c k m)
+    alike : (a b c : LineSegment) → Leads a → Leads b → Leads c → slopeOrder a b ≡ Equal → slopeOrder a c ≡ slopeOrder b c
+    alike a b c (rightward h) (rightward k) (rightward l) e = sloped-orders .alike a b c h k l e
+    alike a b c (rightward h) (rightward k) (upward m n) e = slope-up a c h m n ∙ sym (slope-up b c k m n)
+    alike a b c (rightward h) (upward k l) lc e = never (slope-up a b h k l) e (omega arith)
+    alike a b c (upward h i) (rightward k) lc e = never (slope-down a b h i k) e (omega arith)
+    alike a b c (upward h i) (upward k l) (rightward m) e = slope-down a c h i m ∙ sym (slope-down b c k l m)
+    alike a b c (upward h i) (upward k l) (upward m n) e = slope-even a c h m ∙ sym (slope-even b c k m)
 
-    chain : (a b c : LineSegment) → Lie a → Lie b → Lie c → slopeOrder a b ≡ Less → slopeOrder b c ≡ Less → slopeOrder a c ≡ Less
-    chain a b c (sloped h) (sloped k) (sloped l) e f = sloped-orders .chain a b c h k l e f
-    chain a b c (sloped h) (sloped k) (standing m n) e f = slope-up a c h m n
-    chain a b c (sloped h) (standing k l) (sloped m) e f = never (slope-down b c k l m) f (omega arith)
-    chain a b c (sloped h) (standing k l) (standing m n) e f = slope-up a c h m n
-    chain a b c (standing h i) (sloped k) lc e f = never (slope-down a b h i k) e (omega arith)
-    chain a b c (standing h i) (standing k l) lc e f = never (slope-even a b h k) e (omega arith)
+    chain : (a b c : LineSegment) → Leads a → Leads b → Leads c → slopeOrder a b ≡ Less → slopeOrder b c ≡ Less → slopeOrder a c ≡ Less
+    chain a b c (rightward h) (rightward k) (rightward l) e f = sloped-orders .chain a b c h k l e f
+    chain a b c (rightward h) (rightward k) (upward m n) e f = slope-up a c h m n
+    chain a b c (rightward h) (upward k l) (rightward m) e f = never (slope-down b c k l m) f (omega arith)
+    chain a b c (rightward h) (upward k l) (upward m n) e f = slope-up a c h m n
+    chain a b c (upward h i) (rightward k) lc e f = never (slope-down a b h i k) e (omega arith)
+    chain a b c (upward h i) (upward k l) lc e f = never (slope-even a b h k) e (omega arith)

@@ -3,16 +3,16 @@
 use mathlib.Core.Path.{_≡_, refl, sym, ap, _∙_, subst}
 use mathlib.Core.Logic.{_⊎_, inl, inr}
 use mathlib.Core.List.{[], _∷_}
-use Prim.Native.Nat.{ℕ, _<_}
+use Prim.Native.Nat.{_<_}
 use native.Mathlib.Omega.{arith}
-use lib.IntN.{ℤ, pos, negℤ, natAbs, _+ℤ_, _-ℤ_, _*ℤ_}
+use lib.IntN.{ℤ, pos, negℤ, _+ℤ_, _-ℤ_, _*ℤ_}
 use lib.Signed.{_≤ℤ_, _<ℤ_, clashℤ}
 use Rattle.integers.proofs.Identity.{by-ring, terms}
 use Rattle.integers.proofs.Signs.{≤-diff, <→≤, p*p, n*n, n+n}
 use Rattle.integers.proofs.Order.{<-cert, ≤-cert, Tri, less, same, more, tri, ≡→≤, <→≢, ≤-antisym}
 use Rattle.integers.proofs.Factors.{*-cancel-≤, n/p, p*m, m*p}
 use Rattle.integers.proofs.Lines.{at}
-use Rattle.integers.proofs.Naturals.{pos-<, <-pos, natural}
+use Rattle.integers.proofs.Naturals.{pos-<}
 use Rattle.fractions.specs.Order.{order, andThen}
 use Rattle.fractions.specs.Point.{pointOrder}
 use Rattle.fractions.specs.declared.Order.{Order}
@@ -24,12 +24,15 @@ use Rattle.fractions.proofs.Points.{same as even}
 use Rattle.line_segment.specs.declared.LineSegment.{LineSegment}
 use Rattle.line_segment.specs.Piece.{pointOf, HasLength}
 use Rattle.line_segment.specs.Geometry.{run, rise, side}
+use Rattle.line_segment.specs.Segment.{cramerOf}
+use Rattle.line_segment.proofs.Along.{Leads, rightward, upward, leads}
+use Rattle.line_segment.proofs.Sides.{tilt}
+use Rattle.line_segment.proofs.CramersPoint.{cramer-first, cramer-second, cramer-positive}
 use Rattle.sweep.specs.Ported.{slopeOrder}
 use Rattle.sweep_geometry.specs.Full.{fullHeightOrder}
-use Rattle.sweep_geometry.proofs.Asked.{Asked}
 use Rattle.sweep_geometry.proofs.Comparisons.{never, order-scaled}
-use Rattle.sweep_geometry.proofs.Gap.{tilt, level, gap, gap-first, gap-second, sloped-above, root, root-first, root-second, slope-tilt}
-use Rattle.sweep_geometry.proofs.Slopes.{Lie, sloped, standing, lie, slope-down}
+use Rattle.sweep_geometry.proofs.Gap.{level, gap, gap-first, gap-second, slope-tilt, below-side, above-side}
+use Rattle.sweep_geometry.proofs.Slopes.{slope-down}
 use Rattle.sweep_geometry.proofs.Heights.{above-sloped, below-sloped, above-standing, below-standing, order-diff, zero-times, height-by-gap}
 use Rattle.sweep_geometry.proofs.Uprights.{west-sloped, standing-x, higher, lower, upright-on, on-upright, one-x}
 use Rattle.sweep_geometry.proofs.Turning.{CrossIn, cross-in, turning}
@@ -56,20 +59,6 @@ at-least z f = go (answer (pos 0) z) f
     go (is-less h) f = <→≤ h
     go (is-equal e) f = ≡→≤ e
     go (is-greater h) f = absurd (f refl)
-
--- how far p lies below a sloped piece
-below₀ : (x y x2 y2 X Y D : ℤ) → (y *ℤ (x2 *ℤ D -ℤ X) +ℤ y2 *ℤ (X -ℤ x *ℤ D)) *ℤ D -ℤ Y *ℤ ((x2 -ℤ x) *ℤ D) ≡ negℤ ((x2 -ℤ x) *ℤ (Y -ℤ y *ℤ D) -ℤ (y2 -ℤ y) *ℤ (X -ℤ x *ℤ D)) *ℤ D
-below₀ x y x2 y2 X Y D = by-ring (x ∷ y ∷ x2 ∷ y2 ∷ X ∷ Y ∷ D ∷ []) (search terms depth 60 fits 20000) tt
-
-below-side : (s : LineSegment) (p : Point) → sloped-above s p *ℤ pos (p .d) -ℤ p .y *ℤ (run s *ℤ pos (p .d)) ≡ negℤ (side s p) *ℤ pos (p .d)
-unfolding side run rise
-below-side s p = below₀ (s .min .x) (s .min .y) (s .max .x) (s .max .y) (p .x) (p .y) (pos (p .d))
-
-above-side : (s : LineSegment) (p : Point) → p .y *ℤ (run s *ℤ pos (p .d)) -ℤ sloped-above s p *ℤ pos (p .d) ≡ side s p *ℤ pos (p .d)
-above-side s p = other (sloped-above s p *ℤ pos (p .d)) (p .y *ℤ (run s *ℤ pos (p .d))) (side s p) (pos (p .d)) (below-side s p)
-  where
-    other : (u v z d : ℤ) → u -ℤ v ≡ negℤ z *ℤ d → v -ℤ u ≡ z *ℤ d
-    other u v z d e = by-ring (u ∷ v ∷ []) {a = v -ℤ u} {b = negℤ (u -ℤ v)} (search terms depth 60 fits 20000) tt ∙ ap negℤ e ∙ by-ring (z ∷ d ∷ []) (search terms depth 60 fits 20000) tt
 
 module _ (a k : LineSegment) (p : Point) (dp : 0 < p .d) where
   unscaled : (z : ℤ) → order (pos 0) (z *ℤ pos (p .d)) ≡ order (pos 0) z
@@ -98,7 +87,7 @@ module _ (a k : LineSegment) (p : Point) (dp : 0 < p .d) where
       go (is-greater g) e = not-first (fullHeightOrder p a k) (andThen (slopeOrder a k) r) h e
 
 module _ (k b : LineSegment) (p : Point) (dp : 0 < p .d) where
-  -- b upright: p does not lie below k
+  -- b upright: p does not leads below k
   before-standing : pos 0 <ℤ run k → run b ≡ pos 0 → (r : Order) → Precedes p k b r → pos 0 ≤ℤ side k p
   before-standing hk eb r h =
       at-least (side k p) (λ g. not-first (fullHeightOrder p k b) (andThen (slopeOrder k b) r) h (by-side ∙ g))
@@ -117,7 +106,7 @@ same-gap l t X D X′ D′ e =
     ∙ ap (λ (z : ℤ). l *ℤ D *ℤ D′ +ℤ t *ℤ z) e
     ∙ by-ring (l ∷ t ∷ X′ ∷ D ∷ D′ ∷ []) (search terms depth 60 fits 20000) tt
 
-module _ (T : Asked) (a k b : LineSegment) (la : HasLength a) (lk : HasLength k) (lb : HasLength b) (p c : Point) (dp : 0 < p .d) (dc : 0 < c .d)
+module _ (a k b : LineSegment) (la : HasLength a) (lk : HasLength k) (lb : HasLength b) (p c : Point) (dp : 0 < p .d) (dc : 0 < c .d)
     (a-from : ¬ (pointOrder (pointOf (a .min)) p ≡ Greater)) (k-from : ¬ (pointOrder (pointOf (k .min)) p ≡ Greater)) (b-from : ¬ (pointOrder (pointOf (b .min)) p ≡ Greater))
     (a-upto : pointOrder c (pointOf (a .max)) ≡ Less) (k-upto : pointOrder c (pointOf (k .max)) ≡ Less) (b-upto : pointOrder c (pointOf (b .max)) ≡ Less)
     (r r′ : Order) (ak : Precedes p a k r) (kb : Precedes p k b r′) (ac : side a c ≡ pos 0) (bc : side b c ≡ pos 0) where
@@ -129,13 +118,13 @@ module _ (T : Asked) (a k b : LineSegment) (la : HasLength a) (lk : HasLength k)
   squeeze-west w = go (tri (side k c) (pos 0))
     where
       ha : pos 0 <ℤ run a
-      ha = west-sloped a p c dp dc a-from a-upto w (lie a la)
+      ha = west-sloped a p c dp dc a-from a-upto w (leads a la)
 
       hk : pos 0 <ℤ run k
-      hk = west-sloped k p c dp dc k-from k-upto w (lie k lk)
+      hk = west-sloped k p c dp dc k-from k-upto w (leads k lk)
 
       hb : pos 0 <ℤ run b
-      hb = west-sloped b p c dp dc b-from b-upto w (lie b lb)
+      hb = west-sloped b p c dp dc b-from b-upto w (leads b lb)
 
       under : (u v : ℤ) → pos 0 <ℤ u → pos 0 <ℤ v → (pos 0 -ℤ u *ℤ v) <ℤ pos 0
       under u v h g = <-cert (u ∷ v ∷ []) (p*p h g) (search terms depth 60 fits 20000) tt
@@ -143,9 +132,9 @@ module _ (T : Asked) (a k b : LineSegment) (la : HasLength a) (lk : HasLength k)
       go : Tri (side k c) (pos 0) → Squeezed
       go (same e) = inl e
       go (more h) =
-          inr (inl (turning a k p c dp dc ha hk w T la lk a-from k-from a-upto k-upto r ak (subst (λ (z : ℤ). z <ℤ pos 0) (sym (gap-first a k c ac)) (under (run a) (side k c) ha h))))
+          inr (inl (turning a k p c dp dc ha hk w la lk a-from k-from a-upto k-upto r ak (subst (λ (z : ℤ). z <ℤ pos 0) (sym (gap-first a k c ac)) (under (run a) (side k c) ha h))))
       go (less h) =
-          inr (inr (turning k b p c dp dc hk hb w T lk lb k-from b-from k-upto b-upto r′ kb (subst (λ (z : ℤ). z <ℤ pos 0) (sym (gap-second k b c bc)) (p*m hb h))))
+          inr (inr (turning k b p c dp dc hk hb w lk lb k-from b-from k-upto b-upto r′ kb (subst (λ (z : ℤ). z <ℤ pos 0) (sym (gap-second k b c bc)) (p*m hb h))))
 
   -- c straight above p
   module _ (e : p .x *ℤ pos (c .d) ≡ c .x *ℤ pos (p .d)) (south : (p .y *ℤ pos (c .d)) <ℤ (c .y *ℤ pos (p .d))) (hk : pos 0 <ℤ run k) where
@@ -170,24 +159,23 @@ module _ (T : Asked) (a k b : LineSegment) (la : HasLength a) (lk : HasLength k)
     up : (side k p *ℤ pos (c .d)) <ℤ (side k c *ℤ pos (p .d))
     up = higher k p c e hk south
 
-    -- a upright, through p and c, which lie on the two sides of k
+    -- a upright, through p and c, which leads on the two sides of k
     upright-cross : run a ≡ pos 0 → pos 0 <ℤ rise a → side k p <ℤ pos 0 → pos 0 <ℤ side k c → CrossIn a k p c
     upright-cross ea ra h g =
         let x = standing-x a p c dp dc a-from a-upto e ea in
         let t : negℤ (tilt a k) ≡ rise a *ℤ run k = ap negℤ (sym (slope-tilt a k)) ∙ straight (rise k) (run a) (rise a) (run k) ea in
         let under : pos 0 <ℤ negℤ (tilt a k) = subst (λ (z : ℤ). pos 0 <ℤ z) (sym t) (p*p ra hk) in
-        let d : ℕ = natAbs (negℤ (tilt a k)) in
-        let f : pos d ≡ negℤ (tilt a k) = natural (<→≤ under) in
-        let dr : 0 < d = <-pos (subst (λ (z : ℤ). pos 0 <ℤ z) (sym f) under) in
-        let q : Point = root a k d in
-        let on-a : side a q ≡ pos 0 = root-first a k d f in
-        let on-k : side k q ≡ pos 0 = root-second a k d f in
+        let tilted : ¬ (tilt a k ≡ pos 0) = λ z. <→≢ under (sym (ap negℤ z)) in
+        let q : Point = cramerOf a k in
+        let dr : 0 < q .d = cramer-positive a k tilted in
+        let on-a : side a q ≡ pos 0 = cramer-first a k in
+        let on-k : side k q ≡ pos 0 = cramer-second a k in
         let xq = on-upright a ea ra q on-a in
-        let p-q = one-x (a .min .x) (p .x) (pos (p .d)) (q .x) (pos d) (x .0) xq in
-        let q-c = one-x (a .min .x) (q .x) (pos d) (c .x) (pos (c .d)) xq (x .1) in
-        cross-in T a k la lk p c dp dc a-from k-from a-upto k-upto (λ z. <→≢ under (sym (ap negℤ z))) q dr on-a on-k
-        (placed (below p-q (lower k p q p-q hk (subst (λ (z : ℤ). (side k p *ℤ pos d) <ℤ (z *ℤ pos (p .d))) (sym on-k) (subst (λ (z : ℤ). (side k p *ℤ pos d) <ℤ z) (sym (zero-times (pos (p .d)))) (m*p h (pos-< dr)))))))
-        (placed (below q-c (lower k q c q-c hk (subst (λ (z : ℤ). (z *ℤ pos (c .d)) <ℤ (side k c *ℤ pos d)) (sym on-k) (subst (λ (z : ℤ). z <ℤ (side k c *ℤ pos d)) (sym (zero-times (pos (c .d)))) (p*p g (pos-< dr)))))))
+        let p-q = one-x (a .min .x) (p .x) (pos (p .d)) (q .x) (pos (q .d)) (x .0) xq in
+        let q-c = one-x (a .min .x) (q .x) (pos (q .d)) (c .x) (pos (c .d)) xq (x .1) in
+        cross-in a k la lk p c dp dc a-from k-from a-upto k-upto tilted q dr on-a on-k
+        (placed (below p-q (lower k p q p-q hk (subst (λ (z : ℤ). (side k p *ℤ pos (q .d)) <ℤ (z *ℤ pos (p .d))) (sym on-k) (subst (λ (z : ℤ). (side k p *ℤ pos (q .d)) <ℤ z) (sym (zero-times (pos (p .d)))) (m*p h (pos-< dr)))))))
+        (placed (below q-c (lower k q c q-c hk (subst (λ (z : ℤ). (z *ℤ pos (c .d)) <ℤ (side k c *ℤ pos (q .d))) (sym on-k) (subst (λ (z : ℤ). z <ℤ (side k c *ℤ pos (q .d))) (sym (zero-times (pos (c .d)))) (p*p g (pos-< dr)))))))
       where
         straight : (s u v w : ℤ) → u ≡ pos 0 → negℤ (s *ℤ u -ℤ v *ℤ w) ≡ v *ℤ w
         straight s u v w e = rw e (by-ring (s ∷ v ∷ w ∷ []) (search terms depth 60 fits 20000) tt)
@@ -198,27 +186,27 @@ module _ (T : Asked) (a k b : LineSegment) (la : HasLength a) (lk : HasLength k)
         not-up : (u v m n : ℤ) → u ≤ℤ pos 0 → pos 0 ≤ℤ v → pos 0 ≤ℤ m → pos 0 ≤ℤ n → (u *ℤ m) ≤ℤ (v *ℤ n)
         not-up u v m n h g i j = ≤-cert (u ∷ v ∷ m ∷ n ∷ []) (n+n (n*n g j) (n*n (≤-diff h) i)) (search terms depth 60 fits 20000) tt
 
-    squeeze-up : Lie a → Lie b → Squeezed
-    squeeze-up (sloped ha) (sloped hb) = inl (≤-antisym (first-sloped ha) (last-sloped hb))
-    squeeze-up (sloped ha) (standing eb rb) = absurd (wrong-way (first-sloped ha) (before-standing k b p dp hk eb r′ kb))
-    squeeze-up (standing ea ra) (sloped hb) = go (tri (side k c) (pos 0))
+    squeeze-up : Leads a → Leads b → Squeezed
+    squeeze-up (rightward ha) (rightward hb) = inl (≤-antisym (first-sloped ha) (last-sloped hb))
+    squeeze-up (rightward ha) (upward eb rb) = absurd (wrong-way (first-sloped ha) (before-standing k b p dp hk eb r′ kb))
+    squeeze-up (upward ea ra) (rightward hb) = go (tri (side k c) (pos 0))
       where
         go : Tri (side k c) (pos 0) → Squeezed
         go (same z) = inl z
         go (more h) = inr (inl (upright-cross ea ra (standing-before a k p dp ea ra hk r ak) h))
         go (less h) = clashℤ h (last-sloped hb)
-    squeeze-up (standing ea ra) (standing eb rb) = clashℤ (standing-before a k p dp ea ra hk r ak) (before-standing k b p dp hk eb r′ kb)
+    squeeze-up (upward ea ra) (upward eb rb) = clashℤ (standing-before a k p dp ea ra hk r ak) (before-standing k b p dp hk eb r′ kb)
 
   pub squeeze : pointOrder p c ≡ Less → Squeezed
   squeeze h = go (places p c) h
     where
-      middle : p .x *ℤ pos (c .d) ≡ c .x *ℤ pos (p .d) → (p .y *ℤ pos (c .d)) <ℤ (c .y *ℤ pos (p .d)) → Lie k → Squeezed
-      middle e s (sloped hk) = squeeze-up e s hk (lie a la) (lie b lb)
-      middle e s (standing ek rk) = inl (upright-on k ek rk c ((standing-x k p c dp dc k-from k-upto e ek) .1))
+      middle : p .x *ℤ pos (c .d) ≡ c .x *ℤ pos (p .d) → (p .y *ℤ pos (c .d)) <ℤ (c .y *ℤ pos (p .d)) → Leads k → Squeezed
+      middle e s (rightward hk) = squeeze-up e s hk (leads a la) (leads b lb)
+      middle e s (upward ek rk) = inl (upright-on k ek rk c ((standing-x k p c dp dc k-from k-upto e ek) .1))
 
       go : {o : Order} → Places p c o → o ≡ Less → Squeezed
       go (left w) f = squeeze-west w
-      go (below e s) f = middle e s (lie k lk)
+      go (below e s) f = middle e s (leads k lk)
       go (even e s) f = never refl f (omega arith)
       go (above e s) f = never refl f (omega arith)
       go (right w) f = never refl f (omega arith)

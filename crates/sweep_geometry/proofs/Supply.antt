@@ -2,11 +2,9 @@
 use mathlib.Core.Path.{_≡_, refl, sym, ap, _∙_}
 use mathlib.Core.Logic.{_⊎_, inl, inr, ⊎-elim}
 use mathlib.Core.Bool.{Bool, true, false, cond}
-use mathlib.Core.List.{[], _∷_}
 use Prim.Native.Nat.{ℕ, _<_}
 use native.Mathlib.Omega.{arith}
-use lib.IntN.{ℤ, pos, _-ℤ_, _*ℤ_}
-use Rattle.integers.proofs.Identity.{by-ring, terms}
+use lib.IntN.{pos}
 use Rattle.fractions.specs.Order.{order}
 use Rattle.fractions.specs.Point.{Lowest, Bounded, pointOrder}
 use Rattle.fractions.specs.declared.Order.{Order}
@@ -18,10 +16,15 @@ use Rattle.line_segment.specs.declared.EndPoint.{EndPoint}
 use Rattle.line_segment.specs.declared.LineSegment.{LineSegment}
 use Rattle.line_segment.specs.declared.Meeting.{Meeting}
 use Rattle.line_segment.specs.declared.Meeting.the-variants.{Nothing, Crossing, Overlap}
-use Rattle.line_segment.specs.Piece.{pointOf, endOrder, HasLength}
-use Rattle.line_segment.specs.Geometry.{run, rise, side, Common, OneLine}
+use Rattle.line_segment.specs.Piece.{closed, pointOf, HasLength}
+use Rattle.line_segment.specs.Geometry.{LiesOn, side, Common, OneLine}
 use Rattle.line_segment.specs.Segment.{intersectOf, containsOf, crossingOf}
 use Rattle.line_segment.specs.Demand.{saysOverlap, OnlyPoint}
+use Rattle.line_segment.proofs.Promises.{says-yes-exactly, overlap-exactly, same-whichever-asks, crossing-is-cramers, overlap-ends, contains-exactly}
+use Rattle.line_segment.proofs.Along.{Leads, leads}
+use Rattle.line_segment.proofs.Lying.{whole, forward, closed-of, closed-line, closed-from, closed-upto, lies-closed, lies-inside}
+use Rattle.line_segment.proofs.Sides.{min-on, max-on}
+use Rattle.line_segment.proofs.CramersPoint.{crossing-stays-bounded}
 use Rattle.sweep.specs.Chart.{crosses, overlaps, Chart}
 use Rattle.sweep.specs.Ported.{isLess, kindOf, isUpright}
 use Rattle.sweep.specs.Sought.{later}
@@ -31,12 +34,10 @@ use Rattle.sweep.proofs.Occurring.{End, occurs-out}
 use Rattle.sweep.proofs.Occurring.{Crossing as CrossingAt}
 use Rattle.sweep_geometry.specs.Full.{fullOrder}
 use Rattle.sweep_geometry.specs.Demand.{AllProper}
-use Rattle.sweep_geometry.proofs.Asked.{Asked}
 use Rattle.sweep_geometry.proofs.Comparisons.{never}
-use Rattle.sweep_geometry.proofs.Slopes.{Lie, lie}
 use Rattle.sweep_geometry.proofs.Ranking.{less-is}
 use Rattle.sweep_geometry.proofs.Heights.{full-trans, full-total}
-use Rattle.sweep_geometry.proofs.Inside.{whole, at-most, not-less, On, on-of, on-line, on-from, on-upto, on-closed, lies-on, inside}
+use Rattle.sweep_geometry.proofs.Points.{at-most, not-less}
 use Rattle.sweep_geometry.proofs.Turning.{crossing-of, CrossIn}
 use Rattle.sweep_geometry.proofs.Squeeze.{Precedes, squeeze}
 use Rattle.sweep_geometry.proofs.Aligned.{aligned-dec, aligned-trans}
@@ -52,34 +53,19 @@ kind-overlaps Nothing e = absurd (let z : _≡_ {A = ℕ} 0 1 = cc in omega arit
 kind-overlaps Crossing e = absurd (let z : _≡_ {A = ℕ} 0 1 = cc in omega arith)
 kind-overlaps (Overlap s) e = (s, refl)
 
--- ---- the ends lie on the piece
-min₀ : (u v x y : ℤ) → u *ℤ (y -ℤ y *ℤ pos 1) -ℤ v *ℤ (x -ℤ x *ℤ pos 1) ≡ pos 0
-min₀ u v x y = by-ring (u ∷ v ∷ x ∷ y ∷ []) (search terms depth 60 fits 20000) tt
-
-max₀ : (x y x2 y2 : ℤ) → (x2 -ℤ x) *ℤ (y2 -ℤ y *ℤ pos 1) -ℤ (y2 -ℤ y) *ℤ (x2 -ℤ x *ℤ pos 1) ≡ pos 0
-max₀ x y x2 y2 = by-ring (x ∷ y ∷ x2 ∷ y2 ∷ []) (search terms depth 60 fits 20000) tt
+-- ---- the piece with its ends added, and those ends
+abbrev pub On : LineSegment → Point → Type 0
+On s p = LiesOn (closed s) p
 
 module _ (s : LineSegment) (h : HasLength s) where
-  min-max : pointOrder (pointOf (s .min)) (pointOf (s .max)) ≡ Less
-  unfolding endOrder
-  min-max = h
-
-  min-side : side s (pointOf (s .min)) ≡ pos 0
-  unfolding side pointOf
-  min-side = min₀ (run s) (rise s) (s .min .x) (s .min .y)
-
-  max-side : side s (pointOf (s .max)) ≡ pos 0
-  unfolding side run rise pointOf
-  max-side = max₀ (s .min .x) (s .min .y) (s .max .x) (s .max .y)
-
   pub on-min : On s (pointOf (s .min))
-  on-min = on-of s (pointOf (s .min)) min-side (λ g. never (point-itself (pointOf (s .min))) g (omega arith)) (λ g. never min-max g (omega arith))
+  on-min = closed-of s (pointOf (s .min)) (min-on s) (λ g. never (point-itself (pointOf (s .min))) g (omega arith)) (λ g. never (forward s h) g (omega arith))
 
   pub on-max : On s (pointOf (s .max))
-  on-max = on-of s (pointOf (s .max)) max-side (λ g. never min-max g (omega arith)) (λ g. never (point-itself (pointOf (s .max))) g (omega arith))
+  on-max = closed-of s (pointOf (s .max)) (max-on s) (λ g. never (forward s h) g (omega arith)) (λ g. never (point-itself (pointOf (s .max))) g (omega arith))
 
 -- an overlap begins at the later of the two mins, which lies on both
-module _ (T : Asked) (a b : LineSegment) (la : HasLength a) (lb : HasLength b) where
+module _ (a b : LineSegment) (la : HasLength a) (lb : HasLength b) where
   abbrev pub later-min : Point
   later-min = cond (isLess (pointOrder (pointOf (a .min)) (pointOf (b .min)))) (pointOf (b .min)) (pointOf (a .min))
 
@@ -87,29 +73,29 @@ module _ (T : Asked) (a b : LineSegment) (la : HasLength a) (lb : HasLength b) w
   overlap-on k =
       let o = kind-overlaps (intersectOf a b) k in
       let e : intersectOf a b ≡ Overlap (o .0) = o .1 in
-      let e′ : intersectOf b a ≡ Overlap (o .0) = sym ((T .whichever a b la lb) .0) ∙ e in
-      let l : OneLine a b = ((T .overlap a b la lb) .0 (ap saysOverlap e)) .0 in
-      let l′ : OneLine b a = ((T .overlap b a lb la) .0 (ap saysOverlap e′)) .0 in
-      let f = (T .stretch a b (o .0) la lb e) .first in
-      go l l′ (pointOf (o .0 .min)) (whole (o .0 .min)) (on-closed a _ (f .first)) (on-closed b _ (f .second)) (ask (isLess (pointOrder (pointOf (a .min)) (pointOf (b .min)))))
+      let e′ : intersectOf b a ≡ Overlap (o .0) = sym ((same-whichever-asks a b la lb) .0) ∙ e in
+      let l : OneLine a b = ((overlap-exactly a b la lb) .0 (ap saysOverlap e)) .0 in
+      let l′ : OneLine b a = ((overlap-exactly b a lb la) .0 (ap saysOverlap e′)) .0 in
+      let f = (overlap-ends a b (o .0) la lb e) .first in
+      go l l′ (pointOf (o .0 .min)) (whole (o .0 .min)) (f .first) (f .second) (ask (isLess (pointOrder (pointOf (a .min)) (pointOf (b .min)))))
     where
       go : OneLine a b → OneLine b a → (f : Point) → 0 < f .d → On a f → On b f
           → (isLess (pointOrder (pointOf (a .min)) (pointOf (b .min))) ≡ true) ⊎ (isLess (pointOrder (pointOf (a .min)) (pointOf (b .min))) ≡ false)
           → On a later-min × On b later-min
       go l l′ f df oa ob (inl h) =
           rw h (
-            on-of a (pointOf (b .min)) (l .min) (λ g. never (less-is _ h) g (omega arith))
-                (at-most-trans (pointOf (b .min)) f (pointOf (a .max)) (whole (b .min)) df (whole (a .max)) (on-from b f ob) (on-upto a f oa)),
+            closed-of a (pointOf (b .min)) (l .min) (λ g. never (less-is _ h) g (omega arith))
+                (at-most-trans (pointOf (b .min)) f (pointOf (a .max)) (whole (b .min)) df (whole (a .max)) (closed-from b f ob) (closed-upto a f oa)),
             on-min b lb,
           )
       go l l′ f df oa ob (inr h) =
           rw h (
             on-min a la,
-            on-of b (pointOf (a .min)) (l′ .min) (at-most (pointOf (b .min)) (pointOf (a .min)) h)
-                (at-most-trans (pointOf (a .min)) f (pointOf (b .max)) (whole (a .min)) df (whole (b .max)) (on-from a f oa) (on-upto b f ob)),
+            closed-of b (pointOf (a .min)) (l′ .min) (at-most (pointOf (b .min)) (pointOf (a .min)) h)
+                (at-most-trans (pointOf (a .min)) f (pointOf (b .max)) (whole (a .min)) df (whole (b .max)) (closed-from a f oa) (closed-upto b f ob)),
           )
 
-module _ (T : Asked) (n : ℕ) (piece : ℕ → LineSegment) (ok : AllProper n piece)
+module _ (n : ℕ) (piece : ℕ → LineSegment) (ok : AllProper n piece)
     (before : Point → ℕ → ℕ → Bool) where
   abbrev pub C : Chart
   C =
@@ -153,8 +139,8 @@ module _ (T : Asked) (n : ℕ) (piece : ℕ → LineSegment) (ok : AllProper n p
       go (inl (i, h, inl e)) = rw e (end-lowest (piece i .min), min-bounded i h)
       go (inl (i, h, inr e)) = rw e (end-lowest (piece i .max), max-bounded i h)
       go (inr (q, v, k, e)) =
-          let m = (T .cramers (piece (q .0)) (piece (q .1)) (len (q .0) (omega arith)) (len (q .1) (v .1)) (kind-crosses _ k)) .1 in
-          rw e (m .lowest, T .stays-bounded (piece (q .0)) (piece (q .1)) (ok (q .0) (omega arith) .charted) (ok (q .1) (v .1) .charted))
+          let m = (crossing-is-cramers (piece (q .0)) (piece (q .1)) (len (q .0) (omega arith)) (len (q .1) (v .1)) (kind-crosses _ k)) .1 in
+          rw e (m .lowest, crossing-stays-bounded (piece (q .0)) (piece (q .1)) (ok (q .0) (omega arith) .charted) (ok (q .1) (v .1) .charted))
 
   positive : (p : Point) → Occurs C p → 0 < p .d
   positive p o = (reduced p o) .0 .positive
@@ -178,40 +164,40 @@ module _ (T : Asked) (n : ℕ) (piece : ℕ → LineSegment) (ok : AllProper n p
   -- ---- the test
   module _ (i j : ℕ) (hi : i < n) (hj : j < n) where
     crossing-point : kindOf (intersectOf (piece i) (piece j)) ≡ crosses → OnlyPoint (piece i) (piece j) (crossingOf (piece i) (piece j))
-    crossing-point k = (T .cramers (piece i) (piece j) (len i hi) (len j hj) (kind-crosses _ k)) .1
+    crossing-point k = (crossing-is-cramers (piece i) (piece j) (len i hi) (len j hj) (kind-crosses _ k)) .1
 
     shared : (p : Point) → Occurs C p → containsOf (piece i) p ≡ true → containsOf (piece j) p ≡ true → Common (piece i) (piece j) p
     shared p o e f =
         let r = reduced p o in
         record {
           positive = r .0 .positive;
-          first = (T .containing (piece i) p (len i hi) (r .0 .positive) (r .1)) .0 e;
-          second = (T .containing (piece j) p (len j hj) (r .0 .positive) (r .1)) .0 f;
+          first = (contains-exactly (piece i) p (len i hi) (r .0 .positive) (r .1)) .0 e;
+          second = (contains-exactly (piece j) p (len j hj) (r .0 .positive) (r .1)) .0 f;
         }
 
     contains-crosses : (p : Point) → Occurs C p → containsOf (piece i) p ≡ true → containsOf (piece j) p ≡ true → ¬ OneLine (piece i) (piece j) → kindOf (intersectOf (piece i) (piece j)) ≡ crosses
     contains-crosses p o e f na =
         ap kindOf
-        (crossing-of (intersectOf (piece i) (piece j)) ((T .says-yes (piece i) (piece j) (len i hi) (len j hj)) .1 (p, shared p o e f))
-        (λ y. na (((T .overlap (piece i) (piece j) (len i hi) (len j hj)) .0 y) .0)))
+        (crossing-of (intersectOf (piece i) (piece j)) ((says-yes-exactly (piece i) (piece j) (len i hi) (len j hj)) .1 (p, shared p o e f))
+        (λ y. na (((overlap-exactly (piece i) (piece j) (len i hi) (len j hj)) .0 y) .0)))
 
   on-range : (i : ℕ) (p : Point) → On (piece i) p → (isLess (pointOrder p (pointOf (piece i .min))) ≡ false) × (isLess (pointOrder (pointOf (piece i .max)) p) ≡ false)
-  on-range i p o = (not-less (pointOf (piece i .min)) p (on-from (piece i) p o), not-less p (pointOf (piece i .max)) (on-upto (piece i) p o))
+  on-range i p o = (not-less (pointOf (piece i .min)) p (closed-from (piece i) p o), not-less p (pointOf (piece i .max)) (closed-upto (piece i) p o))
 
   contains-on : (i : ℕ) (p : Point) → i < n → Occurs C p → containsOf (piece i) p ≡ true → On (piece i) p
-  contains-on i p h o e = let r = reduced p o in lies-on (piece i) p ((T .containing (piece i) p (len i h) (r .0 .positive) (r .1)) .0 e)
+  contains-on i p h o e = let r = reduced p o in lies-closed (piece i) p ((contains-exactly (piece i) p (len i h) (r .0 .positive) (r .1)) .0 e)
 
   on-contains : (i : ℕ) (p : Point) → i < n → Occurs C p → On (piece i) p → isLess (pointOrder (pointOf (piece i .min)) p) ≡ true → isLess (pointOrder p (pointOf (piece i .max))) ≡ true → containsOf (piece i) p ≡ true
   on-contains i p h o on e f =
       let r = reduced p o in
-      (T .containing (piece i) p (len i h) (r .0 .positive) (r .1)) .1 (inside (piece i) p (on-line (piece i) p on) (less-is _ e) (less-is _ f))
+      (contains-exactly (piece i) p (len i h) (r .0 .positive) (r .1)) .1 (lies-inside (piece i) p (closed-line (piece i) p on) (less-is _ e) (less-is _ f))
 
   -- ---- the squeeze
   between : (p c : Point) (i j : ℕ) → CrossIn (piece i) (piece j) p c → CrossBetween C p c i j
   between p c i j x = (ap kindOf (x .cross), ap isLess (x .after), ap isLess (x .until))
 
-  lies : (i : ℕ) → i < n → Lie (piece i)
-  lies i h = lie (piece i) (len i h)
+  lies : (i : ℕ) → i < n → Leads (piece i)
+  lies i h = leads (piece i) (len i h)
 
   -- ---- for an order that agrees with the full one
   module _ (irr : (p : Point) (i : ℕ) → before p i i ≡ false)
@@ -227,13 +213,13 @@ module _ (T : Asked) (n : ℕ) (piece : ℕ → LineSegment) (ok : AllProper n p
         let from = at-most (pointOf (piece k .min)) p (uk .1) in
         ⊎-elim
         (λ (z : side (piece k) c ≡ pos 0).
-        inl (on-of (piece k) c z
+        inl (closed-of (piece k) c z
         (λ g. never (at-most-less (pointOf (piece k .min)) p c (whole (piece k .min)) (positive p op) (positive c oc) from (less-is _ pc)) g (omega arith))
         (λ g. never (less-is _ ck) g (omega arith))))
         (λ (z : CrossIn (piece i) (piece k) p c ⊎ CrossIn (piece k) (piece j) p c). inr (⊎-elim (λ x. inl (between p c i k x)) (λ x. inr (between p c k j x)) z))
-        (squeeze T (piece i) (piece k) (piece j) (len i (ui .0)) (len k (uk .0)) (len j (uj .0)) p c (positive p op) (positive c oc)
+        (squeeze (piece i) (piece k) (piece j) (len i (ui .0)) (len k (uk .0)) (len j (uj .0)) p c (positive p op) (positive c oc)
         (at-most (pointOf (piece i .min)) p (ui .1)) from (at-most (pointOf (piece j .min)) p (uj .1)) (less-is _ ci) (less-is _ ck) (less-is _ cj)
-        (order (pos i) (pos k)) (order (pos k) (pos j)) (precedes p i k (ui .0) (uk .0) e) (precedes p k j (uk .0) (uj .0) f) (on-line (piece i) c oi) (on-line (piece j) c oj) (less-is _ pc))
+        (order (pos i) (pos k)) (order (pos k) (pos j)) (precedes p i k (ui .0) (uk .0) e) (precedes p k j (uk .0) (uj .0) f) (closed-line (piece i) c oi) (closed-line (piece j) c oj) (less-is _ pc))
 
     pub geometry : Geometry C
     geometry =
@@ -241,19 +227,19 @@ module _ (T : Asked) (n : ℕ) (piece : ℕ → LineSegment) (ok : AllProper n p
           On = λ i p. On (piece i) p;
           Aligned = λ i j. OneLine (piece i) (piece j);
           ordered = points-ordered;
-          min-max = λ i h. ap isLess (min-max (piece i) (len i h));
+          min-max = λ i h. ap isLess (forward (piece i) (len i h));
           on-min = λ i h. on-min (piece i) (len i h);
           on-max = λ i h. on-max (piece i) (len i h);
           on-range = λ i p h o on. on-range i p on;
           contains-on = contains-on;
           on-contains = on-contains;
-          test-sym = λ i j hi hj ne. ap kindOf ((T .whichever (piece i) (piece j) (len i hi) (len j hj)) .0);
-          crossing-sym = λ i j hi hj ne k. (T .whichever (piece i) (piece j) (len i hi) (len j hj)) .1 (kind-crosses _ k);
-          crossing-on = λ i j hi hj ne k. let m = crossing-point i j hi hj k in (lies-on (piece i) _ (m .common .first), lies-on (piece j) _ (m .common .second));
-          crossing-only = λ i j p hi hj ne o k oi oj. (crossing-point i j hi hj k) .only p ((reduced p o) .0) (on-line (piece i) p oi) (on-line (piece j) p oj);
-          crossing-not-aligned = λ i j hi hj ne k. (T .cramers (piece i) (piece j) (len i hi) (len j hj) (kind-crosses _ k)) .0;
+          test-sym = λ i j hi hj ne. ap kindOf ((same-whichever-asks (piece i) (piece j) (len i hi) (len j hj)) .0);
+          crossing-sym = λ i j hi hj ne k. (same-whichever-asks (piece i) (piece j) (len i hi) (len j hj)) .1 (kind-crosses _ k);
+          crossing-on = λ i j hi hj ne k. let m = crossing-point i j hi hj k in (lies-closed (piece i) _ (m .common .first), lies-closed (piece j) _ (m .common .second));
+          crossing-only = λ i j p hi hj ne o k oi oj. (crossing-point i j hi hj k) .only p ((reduced p o) .0) (closed-line (piece i) p oi) (closed-line (piece j) p oj);
+          crossing-not-aligned = λ i j hi hj ne k. (crossing-is-cramers (piece i) (piece j) (len i hi) (len j hj) (kind-crosses _ k)) .0;
           contains-crosses = λ i j p hi hj ne o e f na. contains-crosses i j hi hj p o e f na;
-          overlap-on = λ i j hi hj ne k. unfold later in overlap-on T (piece i) (piece j) (len i hi) (len j hj) k;
+          overlap-on = λ i j hi hj ne k. unfold later in overlap-on (piece i) (piece j) (len i hi) (len j hj) k;
           aligned-dec = λ i j. aligned-dec (piece i) (piece j);
           aligned-trans = λ i j k p hi hj hk o oi oj ok′ l m. aligned-trans (piece i) (piece j) (piece k) (len j hj) l m;
           before-irr = irr;

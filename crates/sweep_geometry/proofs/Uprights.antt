@@ -20,8 +20,8 @@ use Rattle.fractions.proofs.Points.{Places, left, below, same, above, right, pl
 use Rattle.line_segment.specs.declared.LineSegment.{LineSegment}
 use Rattle.line_segment.specs.Piece.{pointOf}
 use Rattle.line_segment.specs.Geometry.{run, rise, side}
+use Rattle.line_segment.proofs.Along.{Leads, rightward, upward}
 use Rattle.sweep_geometry.proofs.Comparisons.{never}
-use Rattle.sweep_geometry.proofs.Slopes.{Lie, sloped, standing}
 
 x-at-most : (p q : Point) → ¬ (pointOrder p q ≡ Greater) → (p .x *ℤ pos (q .d)) ≤ℤ (q .x *ℤ pos (p .d))
 x-at-most p q f = go (places p q) f
@@ -68,9 +68,9 @@ module _ (s : LineSegment) (p c : Point) (dp : 0 < p .d) (dc : 0 < c .d)
   unfolding pointOf run
   upto-x e = subst (λ (z : ℤ). (c .x *ℤ pos 1) ≤ℤ (z *ℤ pos (c .d))) (no-run (s .min .x) (s .max .x) e) (x-at-most c (pointOf (s .max)) (less-not s-upto))
 
-  pub west-sloped : (p .x *ℤ pos (c .d)) <ℤ (c .x *ℤ pos (p .d)) → Lie s → pos 0 <ℤ run s
-  west-sloped w (sloped h) = h
-  west-sloped w (standing e k) = absurd (not-west (s .min .x) (p .x) (pos (p .d)) (c .x) (pos (c .d)) (pos-< dp) (pos-< dc) from-x (upto-x e) w)
+  pub west-sloped : (p .x *ℤ pos (c .d)) <ℤ (c .x *ℤ pos (p .d)) → Leads s → pos 0 <ℤ run s
+  west-sloped w (rightward h) = h
+  west-sloped w (upward e k) = absurd (not-west (s .min .x) (p .x) (pos (p .d)) (c .x) (pos (c .d)) (pos-< dp) (pos-< dc) from-x (upto-x e) w)
 
   pub standing-x : p .x *ℤ pos (c .d) ≡ c .x *ℤ pos (p .d) → run s ≡ pos 0 → (p .x ≡ s .min .x *ℤ pos (p .d)) × (c .x ≡ s .min .x *ℤ pos (c .d))
   standing-x e r = pinned (s .min .x) (p .x) (pos (p .d)) (c .x) (pos (c .d)) (pos-< dp) (pos-< dc) from-x (upto-x r) e
