@@ -1,13 +1,11 @@
 -- The list that `pieces` fills, number by number, and what it leaves.
-use mathlib.Core.Path.{_≡_, refl, sym, ap}
+use mathlib.Core.Path.{_≡_, refl, ap}
 use mathlib.Core.List.{List}
 use Prim.Native.Nat.{ℕ, zero, suc, _+_, _*_, _≤_, _<_}
-use native.Mathlib.Nat.{add-zero}
 use native.Mathlib.Omega.{arith}
 use lib.IntN.{ℤ, pos}
-use lib.ListN.{length, getD, set, take}
+use lib.ListN.{length, set, take}
 use lib.Seq.{take-suc-set, getD-take}
-use Rattle.charts.specs.Fault.{faultOf}
 use Rattle.charts.specs.Chart.{most, numberAt, faultAt}
 use Rattle.chart_file.specs.declared.Number.the-variants.{Read}
 use Rattle.chart_file.specs.Reading.{Reading, due, stopped, standsAt, coordinateAt, numbers, Left}
@@ -25,13 +23,11 @@ pub number-stored : (s : List ℕ) (c : ℕ) (r : Reading) (list : List ℤ) (i 
 number-stored s c r list i at v x next d j e n q h ed ej =
     rw (ed, ej, take-suc-set list i x h, q) (number-read s c r (take i list) at v next e n)
 
--- the fault of the last piece that the list's front holds, as its five numbers give it
-pub front-fault : (list : List ℤ) (p m r : ℕ) (k x1 y1 x2 y2 : ℤ) → m ≡ 5 * p + 5 → r ≡ faultOf k x1 y1 x2 y2
-    → k ≡ getD list (5 * p) (pos 0) → x1 ≡ getD list (5 * p + 1) (pos 0) → y1 ≡ getD list (5 * p + 2) (pos 0) → x2 ≡ getD list (5 * p + 3) (pos 0) → y2 ≡ getD list (5 * p + 4) (pos 0)
-    → faultAt (take m list) p ≡ r
+-- the fault of the last piece that the list's front holds
+pub front-fault : (list : List ℤ) (p m : ℕ) → m ≡ 5 * p + 5 → faultAt (take m list) p ≡ faultAt list p
 unfolding faultAt numberAt
-front-fault list p m r k x1 y1 x2 y2 e h e0 e1 e2 e3 e4 =
-    rw (getD-take m list (5 * p + 0) (pos 0) (omega arith), getD-take m list (5 * p + 1) (pos 0) (omega arith), getD-take m list (5 * p + 2) (pos 0) (omega arith), getD-take m list (5 * p + 3) (pos 0) (omega arith), getD-take m list (5 * p + 4) (pos 0) (omega arith), add-zero (5 * p), ← e0, ← e1, ← e2, ← e3, ← e4) (sym h)
+front-fault list p m e =
+    rw (getD-take m list (5 * p + 0) (pos 0) (omega arith), getD-take m list (5 * p + 1) (pos 0) (omega arith), getD-take m list (5 * p + 2) (pos 0) (omega arith), getD-take m list (5 * p + 3) (pos 0) (omega arith), getD-take m list (5 * p + 4) (pos 0) (omega arith))
 
 module _ (n : ℕ) (w : Reading) (list : List ℤ) where
   pub left-due : (p at fault : ℕ) → w ≡ due (take (5 * p) list) at → p ≡ n → length list ≡ 5 * most → fault ≡ 0 → Left n w (record { number = fault; place = at }) list

@@ -1,6 +1,6 @@
 // The chart file's reader: bytes from anywhere become a list of numbers, or a number and a place that say why not.
 ghost use mathlib.Core.Path.{_≡_};
-ghost use Prim.Native.Nat.{_≤_, _<_, _*_};
+ghost use Prim.Native.Nat.{_*_, _≤_, _<_};
 ghost use mathlib.Core.List.{_++_};
 ghost use lib.ListN.{length, take, drop};
 ghost use Rattle.chart_file.specs.Groups.{groupsAt};
@@ -8,7 +8,7 @@ ghost use Rattle.chart_file.specs.Coordinate.{signedOf};
 ghost use Rattle.chart_file.specs.Format.{groups};
 ghost use Rattle.chart_file.specs.Reading.{kindAt, coordinateAt, Left, Reads};
 ghost use Rattle.chart_file.specs.Reading.{pieces as Reading·pieces};
-ghost use Rattle.charts.specs.Chart.{most};
+ghost use Rattle.charts.specs.Chart.{most, faultAt};
 use charts::Answer;
 use charts::MOST;
 
@@ -19,7 +19,7 @@ pub const NUMBERS: usize = 5 * MOST;
 const GROUPS: usize = 3;
 
 // A coordinate in range is stored as at most twice charts::RANGE.
-const WIDEST: u32 = 65534;
+const WIDEST: u32 = 2 * (charts::RANGE as u32);
 
 // What stands in groups at a place: a number and the place after it, or why it is refused.
 enum Groups {
@@ -33,6 +33,7 @@ enum Number {
     Refused(u8),
 }
 
+// A byte as a number.
 fn wide(x: u8) -> u32
     ensures { λ r. ⌜ r ≡ x ⌝ }
 {
@@ -97,6 +98,21 @@ fn kind_at(file: &[u8], at: usize) -> Number
     Number::Read(kind as i32, at + 1)
 }
 
+// The fault of piece p of a list that holds it.
+fn fault_at(list: &[i32; NUMBERS], p: usize) -> u8
+    requires { ⌜ (p < most) × (length (now list) ≡ 5 * most) ⌝ }
+    ensures { λ r. ⌜ r ≡ faultAt (now (list .entry)) p ⌝ }
+{
+    let first = 5 * p;
+    charts::fault_of(
+        list[first],
+        list[first + 1],
+        list[first + 2],
+        list[first + 3],
+        list[first + 4],
+    )
+}
+
 // Where reading the pieces stopped: with number 0 after the last of them, else at the first refusal.
 struct Stop {
     number: u8,
@@ -112,14 +128,13 @@ fn pieces(file: &[u8], count: usize, list: &mut [i32; NUMBERS]) -> Stop
     let mut fault: u8 = 0;
     'file: for p in 0..count {
         let start = at;
-        let first = 5 * p;
         match kind_at(file, at) {
             Number::Refused(f) => {
                 fault = f;
                 break 'file;
             }
             Number::Read(v, next) => {
-                list[first] = v;
+                list[5 * p] = v;
                 at = next;
             }
         }
@@ -130,20 +145,12 @@ fn pieces(file: &[u8], count: usize, list: &mut [i32; NUMBERS]) -> Stop
                     break 'file;
                 }
                 Number::Read(v, next) => {
-                    list[first + c] = v;
+                    list[5 * p + c] = v;
                     at = next;
                 }
             }
         }
-        if charts::fault_of(
-            list[first],
-            list[first + 1],
-            list[first + 2],
-            list[first + 3],
-            list[first + 4],
-        )
-            != 0
-        {
+        if fault_at(list, p) != 0 {
             fault = 6;
             at = start;
             break 'file;

@@ -17,10 +17,10 @@ use Rattle.chart_file.proofs.pieces.Statement.{statement}
 use Rattle.chart_file.proofs.pieces.Tie as tie
 
 abbrev Inv-loop : tie.InvT-loop
-Inv-loop file count list₀ at₀ fault₀ p start first c₀ list at fault c = (1 ≤ c) × (c ≤ 5) × (fault ≡ 0) × (length list ≡ 320) × (numbers file c (pieces file p) ≡ due (take (5 * p + c) list) at)
+Inv-loop file count list₀ at₀ fault₀ p start c₀ list at fault c = (1 ≤ c) × (c ≤ 5) × (fault ≡ 0) × (length list ≡ 320) × (numbers file c (pieces file p) ≡ due (take (5 * p + c) list) at)
 
 abbrev μ-loop : tie.MeasureT-loop
-μ-loop file count list₀ at₀ fault₀ p start first c₀ list at fault c = 5 - c
+μ-loop file count list₀ at₀ fault₀ p start c₀ list at fault c = 5 - c
 
 abbrev Inv-file : tie.InvT-file
 Inv-file file count list₀ at₀ fault₀ p₀ list at fault p = (p ≤ count) × (fault ≡ 0) × (length list ≡ 320) × (pieces file p ≡ due (take (5 * p) list) at)
@@ -29,24 +29,14 @@ abbrev μ-file : tie.MeasureT-file
 μ-file file count list₀ at₀ fault₀ p₀ list at fault p = count - p
 
 -- the fault asked for is that of the piece just read
-fault-there : (c : tie.After-fault-of Inv-loop μ-loop Inv-file μ-file) →
-    let l = c .before .before .before .before .before .before .before in
+fault-there : (c : tie.After-fault-at Inv-loop μ-loop Inv-file μ-file) →
+    let l = c .before .before .before in
     let p = l .before .before .before .before .before .before .file .p in
-    faultAt (take (5 * p + l .loop .c) (l .loop .list)) p ≡ c .fault-of .result
+    faultAt (take (5 * p + l .loop .c) (l .loop .list)) p ≡ c .fault-at .result
 fault-there c =
-    let a5 = c .before in
-    let a4 = a5 .before in
-    let a3 = a4 .before in
-    let a2 = a3 .before in
-    let a1 = a2 .before in
-    let l = a1 .before .before in
+    let l = c .before .before .before in
     let p = l .before .before .before .before .before .before .file .p in
-    front-fault (l .loop .list) p (5 * p + l .loop .c) (c .fault-of .result) _ _ _ _ _ (omega arith) (c .fault-of .ensures)
-    (toZ-ofZ {w = w32} (record { sfits = a1 .fault-of-arg .given }))
-    (toZ-ofZ {w = w32} (record { sfits = a2 .fault-of-arg2 .given }))
-    (toZ-ofZ {w = w32} (record { sfits = a3 .fault-of-arg3 .given }))
-    (toZ-ofZ {w = w32} (record { sfits = a4 .fault-of-arg4 .given }))
-    (toZ-ofZ {w = w32} (record { sfits = a5 .fault-of-arg5 .given }))
+    front-fault (l .loop .list) p (5 * p + l .loop .c) (omega arith) ∙ sym (c .fault-at .ensures)
 
 file-holds : tie.Need-file-holds Inv-loop μ-loop Inv-file μ-file
 unfolding pieces
@@ -87,7 +77,7 @@ loop-again c =
 file-again : tie.Need-file-again Inv-loop μ-loop Inv-file μ-file
 file-again c =
     let q = c .before in
-    let l = q .before .before .before .before .before .before .before in
+    let l = q .before .before .before in
     let o = l .before .before .before .before .before .before in
     let st = o .before .before in
     let s = st .args .file .now in
@@ -139,7 +129,7 @@ returns-3 c =
 returns-4 : tie.Need-returns-4 Inv-loop μ-loop Inv-file μ-file
 returns-4 c =
     let q = c .before in
-    let l = q .before .before .before .before .before .before .before in
+    let l = q .before .before .before in
     let o = l .before .before .before .before .before .before in
     let st = o .before .before in
     let s = st .args .file .now in
@@ -153,6 +143,9 @@ returns-4 c =
     (omega arith)
     (i .3)
 
+fault-at-requires : tie.Need-fault-at-requires Inv-loop μ-loop Inv-file μ-file
+fault-at-requires c κs = (omega arith, c .before .before .loop .inv .3)
+
 pub pieces-spec : {M : Type 1} → statement M
 pieces-spec =
     tie.close
@@ -162,8 +155,8 @@ pieces-spec =
     Inv-file
     μ-file
     file-holds
-    (λ c. search needs)
     (λ c κs. search needs)
+    (λ c. search needs)
     (λ c. search needs)
     (λ c. search needs)
     (λ c. search needs)
@@ -177,22 +170,9 @@ pieces-spec =
     (λ c. search needs)
     (λ c. search needs)
     (λ c. search needs)
+    (λ c. search needs)
     loop-again
-    (λ c. search needs)
-    (λ c. search needs)
-    (λ c. search needs)
-    (λ c. search needs)
-    (λ c. search needs)
-    (λ c. search needs)
-    (λ c. search needs)
-    (λ c. search needs)
-    (λ c. search needs)
-    (λ c. search needs)
-    (λ c. search needs)
-    (λ c. search needs)
-    (λ c. search needs)
-    (λ c. search needs)
-    (λ c κs. search needs)
+    fault-at-requires
     (λ c. search needs)
     (λ c. search needs)
     file-again
