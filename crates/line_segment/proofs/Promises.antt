@@ -25,6 +25,7 @@ use Rattle.line_segment.specs.Segment.{stretchBy, stretchOf, intersectOf
 use Rattle.line_segment.specs.Demand.{saysYes, saysOverlap, Meet, SaysYesExactly, OverlapExactly, SameWhicheverAsks, CrossingIsCramers, OverlapEnds, ContainsExactly}
 use Rattle.line_segment.proofs.Holding.{in-bounds, holds-between}
 use Rattle.line_segment.proofs.Sides.{tilt, one-point}
+pub use Rattle.line_segment.proofs.CramersPoint.{crossing-stays-bounded}
 use Rattle.line_segment.proofs.CramersPoint.{cramer-first, cramer-second, cramer-positive, crossing-swapped, crossing-lowest, crossing-same}
 use Rattle.line_segment.proofs.Along.{leads}
 use Rattle.line_segment.proofs.Lying.{whole, both, same-lies, End, end-on, lies-between, between-lies}

@@ -36,12 +36,13 @@ rightBy Greater a b = a
 unfoldable pub rightmostOf : EndPoint → EndPoint → EndPoint
 rightmostOf a b = rightBy (endOrder a b) a b
 
--- the point is between the ends, which are put in order first
+-- the point is between the ends of the piece
 unfoldable pub within : Point → LineSegment → Bool
 within p s =
     admits (pointOrder (pointOf (s .min)) p) (s .min .included)
     && admits (pointOrder p (pointOf (s .max))) (s .max .included)
 
+-- between two ends in either order
 unfoldable pub innerBetween : Point → EndPoint → EndPoint → Bool
 innerBetween p a b = within p (joinOf a b)
 
