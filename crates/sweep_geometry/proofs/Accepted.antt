@@ -1,9 +1,9 @@
--- The pieces of an accepted list are proper; where its test for upright pieces finds none, none is.
-use mathlib.Core.Path.{_≡_, refl}
-use mathlib.Core.Logic.{inl, inr, ⊎-elim}
+-- The pieces of an accepted list are proper, and none is upright where its test finds none: so all promises hold of it.
+use mathlib.Core.Path.{_≡_, refl, sym, _∙_}
+use mathlib.Core.Logic.{_↔_, inl, inr, ⊎-elim}
 use mathlib.Core.Bool.{true, false}
 use mathlib.Core.List.{List}
-use Prim.Native.Nat.{ℕ}
+use Prim.Native.Nat.{ℕ, _<_}
 use native.Mathlib.Omega.{arith}
 use lib.IntN.{ℤ, negℤ}
 use Rattle.integers.specs.Size.{Small}
@@ -15,7 +15,11 @@ use Rattle.fractions.proofs.Orders.{Answer, is-less, is-equal, is-greater, answ
 use Rattle.line_segment.specs.declared.EndPoint.{EndPoint}
 use Rattle.line_segment.specs.declared.LineSegment.{LineSegment}
 use Rattle.line_segment.specs.Piece.{joinBy, joinOf, pieceOf}
-use Rattle.line_segment.specs.Demand.{OnChart}
+use Rattle.line_segment.specs.declared.Meeting.{Meeting}
+use Rattle.line_segment.specs.declared.Meeting.the-variants.{Nothing, Crossing, Overlap}
+use Rattle.line_segment.specs.Segment.{intersectOf}
+use Rattle.line_segment.specs.Demand.{saysYes, Meet, OnChart}
+use Rattle.line_segment.proofs.Promises.{says-yes-exactly}
 use Rattle.charts.specs.Fault.{range, outside, eqZ}
 use Rattle.charts.specs.Chart.{verdictOf}
 use Rattle.charts.specs.Piece.{coordinateOf, pieceAt, noUpright}
@@ -24,9 +28,13 @@ use Rattle.charts.specs.declared.Verdict.the-variants.{Accepted}
 use Rattle.charts.proofs.Rows.{says-outside, says-eq}
 use Rattle.charts.proofs.Accepted.{pieces-have-length}
 use Rattle.charts.proofs.Upright.{upright-found}
-use Rattle.sweep.specs.Ported.{isEqual, isUpright}
+use Rattle.sweep.specs.Chart.{meets, kind}
+use Rattle.sweep.specs.Sought.{all, meeting}
+use Rattle.sweep.specs.Ported.{isEqual, isUpright, kindOf, ported}
+use Rattle.sweep.proofs.Lists.{keep-in, keep-out}
+use Rattle.sweep.proofs.Occurring.{all-in, all-out}
 use Rattle.sweep.proofs.Tests.{ask, clash}
-use Rattle.sweep_geometry.specs.Demand.{AllProper, NoneUpright, ListSweeps}
+use Rattle.sweep_geometry.specs.Demand.{AllProper, NoneUpright, ListSweeps, ListsMeetings}
 use Rattle.sweep_geometry.proofs.Promises.{ported-sweeps}
 
 small : (v : ℤ) → Small 32767 (coordinateOf v)
@@ -70,3 +78,25 @@ list-flat list n e i h =
 
 pub list-sweeps : ListSweeps
 list-sweeps list n e f = ported-sweeps n (pieceAt list) (list-proper list n e) (list-flat list n f)
+
+-- ---- the full list
+yes-meets : (m : Meeting) → meets (kindOf m) ≡ saysYes m
+unfolding meets
+yes-meets Nothing = refl
+yes-meets Crossing = refl
+yes-meets (Overlap s) = refl
+
+pub lists-meetings : ListsMeetings
+unfolding meeting
+lists-meetings list n e f budget g i j =
+    let C = ported n (pieceAt list) in
+    let a = (list-sweeps list n e f) .lists-all budget g (i, j) in (
+      (λ h.
+          let r = keep-out (λ q. meets (kind C q)) (all C) (a .0 h) in
+          let v = all-out C (r .0) in
+          (v .0, v .1, (test v) .0 (sym (yes-meets (intersectOf (pieceAt list i) (pieceAt list j))) ∙ r .1))),
+      (λ h. a .1 (keep-in (λ q. meets (kind C q)) (all-in C (i, j) (h .0, h .1)) (yes-meets (intersectOf (pieceAt list i) (pieceAt list j)) ∙ (test (h .0, h .1)) .1 (h .2)))),
+    )
+  where
+    test : (i < j) × (j < n) → (saysYes (intersectOf (pieceAt list i) (pieceAt list j)) ≡ true) ↔ Meet (pieceAt list i) (pieceAt list j)
+    test v = says-yes-exactly (pieceAt list i) (pieceAt list j) (pieces-have-length list n i e (omega arith)) (pieces-have-length list n j e (v .1))

@@ -1,7 +1,9 @@
 -- What is promised of the sweep on pieces with integer ends.
 use mathlib.Core.Path.{_≡_}
+use mathlib.Core.Logic.{_↔_}
 use mathlib.Core.Bool.{true, false}
 use mathlib.Core.List.{List}
+use mathlib.Core.List.{List·Memᴰ as In}
 use Prim.Native.Nat.{ℕ, _<_}
 use lib.IntN.{ℤ}
 use Rattle.fractions.specs.Point.{pointOrder}
@@ -10,12 +12,13 @@ use Rattle.fractions.specs.declared.Point.{Point}
 use Rattle.line_segment.specs.declared.LineSegment.{LineSegment}
 use Rattle.line_segment.specs.Piece.{HasLength, closed}
 use Rattle.line_segment.specs.Geometry.{Common}
-use Rattle.line_segment.specs.Demand.{OnChart}
+use Rattle.line_segment.specs.Demand.{Meet, OnChart}
 use Rattle.charts.specs.Chart.{verdictOf}
 use Rattle.charts.specs.Piece.{pieceAt, noUpright}
 use Rattle.charts.specs.declared.Verdict.the-variants.{Accepted}
 use Rattle.sweep.specs.Lists.{Pair}
 use Rattle.sweep.specs.Chart.{meets, kind}
+use Rattle.sweep.specs.Run.{answer}
 use Rattle.sweep.specs.Sought.{first}
 use Rattle.sweep.specs.Demand.{Pieces, Promises, AlwaysPromises}
 use Rattle.sweep.specs.Ported.{isUpright, ported}
@@ -49,6 +52,13 @@ PortedAlways = (n : ℕ) (piece : ℕ → LineSegment) → AllProper n piece →
 abbrev pub ListSweeps : Type 0
 ListSweeps =
     (list : List ℤ) (n : ℕ) → verdictOf list ≡ Accepted n → noUpright list n ≡ true → Promises (ported n (pieceAt list))
+
+-- run to its end, it lists exactly the pairs of pieces that have a common point: those of the all-pairs list
+abbrev pub ListsMeetings : Type 0
+ListsMeetings =
+    (list : List ℤ) (n : ℕ) → verdictOf list ≡ Accepted n → noUpright list n ≡ true
+    → (budget : ℕ) → (answer (ported n (pieceAt list)) budget) .ended ≡ true
+    → (i j : ℕ) → In (i, j) ((answer (ported n (pieceAt list)) budget) .listed) ↔ ((i < j) × (j < n) × Meet (pieceAt list i) (pieceAt list j))
 
 -- "the least point of the common part with its ends added, included or not"
 pub record LeastCommon (a b : LineSegment) (p : Point) : Type 0 where
