@@ -1,6 +1,6 @@
 -- What the parts of the test answer, from what a branch of the code knows.
-use mathlib.Core.Path.{_≡_, refl, sym, _∙_}
-use mathlib.Core.Bool.{Bool, true, false, _&&_}
+use mathlib.Core.Path.{_≡_, sym, _∙_}
+use mathlib.Core.Bool.{Bool, true, false}
 use Rattle.orientation.specs.declared.Orientation.{Orientation}
 use Rattle.orientation.specs.Turn.{isStraight}
 use Rattle.fractions.specs.declared.Order.{Order}
@@ -12,17 +12,8 @@ use Rattle.line_segment.specs.declared.LineSegment.{LineSegment}
 use Rattle.line_segment.specs.declared.Meeting.the-variants.{Nothing, Crossing, Overlap}
 use Rattle.line_segment.specs.Piece.{pointOf, joinOf}
 use Rattle.line_segment.specs.Geometry.{admits}
+use Rattle.line_segment.proofs.Booleans.{and-true, and-false, false-and}
 use Rattle.line_segment.specs.Segment.{within, innerBetween, stretchBy, stretchOf, touchOf, turnTo, opposed, astrideOf, intersectOf}
-
-pub and-false : (x : Bool) {y : Bool} → y ≡ false → x && y ≡ false
-and-false true e = e
-and-false false e = refl
-
-pub and-true : {x y : Bool} → x ≡ true → y ≡ true → x && y ≡ true
-and-true h k = rw h k
-
-pub false-and : {x : Bool} (y : Bool) → x ≡ false → x && y ≡ false
-false-and y h = rw h
 
 module _ (p : Point) (a b : EndPoint) {s : LineSegment} {o : Order} (j : s ≡ joinOf a b) (first : o ≡ pointOrder (pointOf (s .min)) p) where
   pub between-then : admits o (s .min .included) ≡ true → {o′ : Order} → o′ ≡ pointOrder p (pointOf (s .max)) → {r : Bool} → r ≡ admits o′ (s .max .included) → r ≡ innerBetween p a b

@@ -14,11 +14,12 @@ use Rattle.line_segment.specs.Piece.{pointOf, HasLength}
 use Rattle.line_segment.specs.Geometry.{side, LiesOn, Common}
 use Rattle.line_segment.specs.Segment.{innerBetween, touchOf, cramerOf}
 use Rattle.line_segment.specs.Demand.{saysYes, saysOverlap}
+use Rattle.line_segment.proofs.Booleans.{both}
 use Rattle.line_segment.proofs.Answers.{touch-yes}
 use Rattle.line_segment.proofs.Sides.{tilt, tilt-second, alike}
 use Rattle.line_segment.proofs.CramersPoint.{cramer-first, cramer-second, cramer-positive}
 use Rattle.line_segment.proofs.Along.{leads}
-use Rattle.line_segment.proofs.Lying.{whole, both, same-lies, lies-inside, End, end-lies, end-included, lies-between, between-lies}
+use Rattle.line_segment.proofs.Lying.{whole, same-lies, lies-inside, End, end-lies, end-included, lies-between, between-lies}
 use Rattle.line_segment.proofs.TwoLines.{Opposite, down, up, inside}
 
 -- ---- an end e of t on the line of s, where the two lines have no other common point

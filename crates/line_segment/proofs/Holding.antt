@@ -1,6 +1,6 @@
 -- What the parts of `contains` answer, from what a branch of the code knows.
 use mathlib.Core.Path.{_≡_, refl, sym, ap, _∙_}
-use mathlib.Core.Bool.{Bool, true, false, cond, _&&_}
+use mathlib.Core.Bool.{Bool, true, false, cond}
 use Prim.Native.Nat.{ℕ, zero, suc, _^_, _<_, _≤_}
 use native.Mathlib.Omega.{arith}
 use native.Mathlib.Nat.{not-suc-le-zero, le-of-lt}
@@ -34,11 +34,7 @@ use Rattle.line_segment.specs.Piece.{pointOf}
 use Rattle.line_segment.specs.Geometry.{run, rise, side}
 use Rattle.line_segment.specs.Segment.{innerBetween, inBounds, containsOf}
 use Rattle.line_segment.proofs.Ends.{pairOrder}
-use Rattle.line_segment.proofs.Answers.{and-false, false-and}
-
-both : {x y : Bool} → x && y ≡ true → (x ≡ true) × (y ≡ true)
-both {x = true} e = (refl, e)
-both {x = false} e = absurd (let z : _≡_ {A = ℕ} 0 1 = cc in omega arith)
+use Rattle.line_segment.proofs.Booleans.{both, and-false, false-and}
 
 -- ---- bounds
 module _ (p : Point) {m : ℕ} {u : ℤ} (x : m ≡ natAbs u) (e : u ≡ p .x) where

@@ -2,6 +2,7 @@
 --   the statements of specs/Demand, kept                     Promises      says-yes-exactly and its kin
 --   each contract allows one result                          Once
 --   the scope's examples, computed                           Examples
+--   two answers together; what cannot be                     Booleans      both, no
 --   what the test's parts answer, from a branch of the code  Answers       both-on, touch-yes, crossed
 --   what the parts of `contains` answer                      Holding       holds-between, in-bounds
 --   the order of ends by their coordinates                   Ends          end-order-is
@@ -18,6 +19,7 @@
 pub mod Promises
 pub mod Once
 pub mod Examples
+pub mod Booleans
 pub mod Answers
 pub mod Holding
 pub mod Ends

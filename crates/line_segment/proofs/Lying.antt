@@ -1,7 +1,7 @@
 -- Laws of a point that lies on a piece: its ends, its inside, the ends counted in, and the same point written otherwise.
 use mathlib.Core.Path.{_≡_, refl, sym, ap, _∙_}
 use mathlib.Core.Logic.{⊎-elim}
-use mathlib.Core.Bool.{Bool, true, false, _&&_}
+use mathlib.Core.Bool.{Bool, true}
 use mathlib.Core.List.{[], _∷_}
 use Prim.Native.Nat.{ℕ, _<_}
 use native.Mathlib.Omega.{arith}
@@ -19,6 +19,7 @@ use Rattle.line_segment.specs.declared.LineSegment.{LineSegment}
 use Rattle.line_segment.specs.Piece.{pointOf, endOrder, joinBy, joinOf, HasLength, closed}
 use Rattle.line_segment.specs.Geometry.{run, rise, side, admits, LiesOn}
 use Rattle.line_segment.specs.Segment.{moment, within, innerBetween}
+use Rattle.line_segment.proofs.Booleans.{no, both}
 use Rattle.line_segment.proofs.Sides.{side-line, line, min-on, max-on}
 
 pub whole : (e : EndPoint) → 0 < pointOf e .d
@@ -27,10 +28,6 @@ whole e = omega arith
 
 pub not-zero : (n : ℕ) → 0 < n → ¬ (pos n ≡ pos 0)
 not-zero n h e = let k = pos-injective e in omega arith
-
-pub both : {x y : Bool} → x && y ≡ true → (x ≡ true) × (y ≡ true)
-both {x = true} e = (refl, e)
-both {x = false} e = absurd (let z : _≡_ {A = ℕ} 0 1 = cc in omega arith)
 
 -- ---- one point, written twice
 module _ (s : LineSegment) (p q : Point) (hp : 0 < p .d) (hq : 0 < q .d) (e : pointOrder p q ≡ Equal) where
@@ -80,9 +77,9 @@ lies-closed s p h =
 
 -- with the ends counted in: on the line, and at most so far
 pub not-after : (o : Order) (m : Bool) → admits o m ≡ true → ¬ (o ≡ Greater)
-not-after Less m e g = let z : _≡_ {A = ℕ} 0 1 = cc in omega arith
-not-after Equal m e g = let z : _≡_ {A = ℕ} 0 1 = cc in omega arith
-not-after Greater m e g = let z : _≡_ {A = ℕ} 0 1 = cc in omega arith
+not-after Less m e g = no (cc)
+not-after Equal m e g = no (cc)
+not-after Greater m e g = no (cc)
 
 pub admits-at-most : (o : Order) → ¬ (o ≡ Greater) → admits o true ≡ true
 admits-at-most Less f = refl

@@ -2,8 +2,7 @@
 use mathlib.Core.Path.{_≡_, refl, sym, ap, _∙_}
 use mathlib.Core.Logic.{_↔_, _⊎_, inl, inr}
 use mathlib.Core.Bool.{Bool, true, false, cond}
-use Prim.Native.Nat.{ℕ, _<_}
-use native.Mathlib.Omega.{arith}
+use Prim.Native.Nat.{_<_}
 use Rattle.fractions.specs.declared.Order.{Order}
 use Rattle.fractions.specs.declared.Order.the-variants.{Less, Equal, Greater}
 use Rattle.fractions.specs.declared.Point.{Point}
@@ -15,10 +14,8 @@ use Rattle.line_segment.specs.declared.EndPoint.{EndPoint}
 use Rattle.line_segment.specs.Piece.{pointOf, endOrder}
 use Rattle.line_segment.specs.Geometry.{admits}
 use Rattle.line_segment.specs.Segment.{exclusiveOf, rightBy, rightmostOf, leftBy, leftmostOf}
+use Rattle.line_segment.proofs.Booleans.{no, clash}
 use Rattle.line_segment.proofs.Lying.{whole, not-after}
-
-never : {A : Type 0} → true ≡ false → A
-never e = absurd (let z : _≡_ {A = ℕ} 0 1 = cc in omega arith)
 
 -- ---- `o` tells how each end comes to a point; ef how e comes to f
 module _ (o : EndPoint → Order) (e f : EndPoint) where
@@ -36,7 +33,7 @@ module _ (o : EndPoint → Order) (e f : EndPoint) where
     where
       narrow : (o : Order) (m : Bool) → admits o false ≡ true → admits o m ≡ true
       narrow Less m h = refl
-      narrow Equal m h = never (sym h)
+      narrow Equal m h = clash h
       narrow Greater m h = h
 
   pick : (ef : Order)
@@ -149,38 +146,29 @@ module _ (e f : EndPoint) where
   -- no end comes after the rightmost, nor before the leftmost
   pub rightmost-after : ¬ (pointOrder (pointOf e) (pointOf (rightmostOf e f)) ≡ Greater)
   unfolding rightmostOf rightBy endOrder
-  rightmost-after = go (pointOrder (pointOf e) (pointOf f)) refl
+  rightmost-after = go (pointOrder (pointOf e) (pointOf f)) refl (point-itself (pointOf e))
     where
-      no : {o : Order} → o ≡ Equal → o ≡ Greater → ⊥
-      no q g = let z : _≡_ {A = ℕ} 0 1 = cc in omega arith
-
-      go : (o : Order) → pointOrder (pointOf e) (pointOf f) ≡ o → ¬ (pointOrder (pointOf e) (pointOf (rightBy o e f)) ≡ Greater)
-      go Less q g = let z : _≡_ {A = ℕ} 0 1 = cc in omega arith
-      go Equal q g = pair (e .included) g
+      go : (o : Order) → pointOrder (pointOf e) (pointOf f) ≡ o → pointOrder (pointOf e) (pointOf e) ≡ Equal → ¬ (pointOrder (pointOf e) (pointOf (rightBy o e f)) ≡ Greater)
+      go Less q i g = no (cc)
+      go Equal q i g = pair (e .included) g
         where
           pair : (m : Bool) → pointOrder (pointOf e) (pointOf (cond m f e)) ≡ Greater → ⊥
-          pair true g = no q g
-          pair false g = no (point-itself (pointOf e)) g
-      go Greater q g = no (point-itself (pointOf e)) g
+          pair true g = no (cc)
+          pair false g = no (cc)
+      go Greater q i g = no (cc)
 
   pub leftmost-before : ¬ (pointOrder (pointOf (leftmostOf e f)) (pointOf e) ≡ Greater)
   unfolding leftmostOf leftBy endOrder
-  leftmost-before = go (pointOrder (pointOf e) (pointOf f)) refl
+  leftmost-before = go (pointOrder (pointOf e) (pointOf f)) refl (point-itself (pointOf e))
     where
-      no : {o : Order} → o ≡ Equal → o ≡ Greater → ⊥
-      no q g = let z : _≡_ {A = ℕ} 0 1 = cc in omega arith
-
       back : {o : Order} → pointOrder (pointOf e) (pointOf f) ≡ o → pointOrder (pointOf f) (pointOf e) ≡ turned o
       back q = point-turned (pointOf e) (pointOf f) ∙ ap turned q
 
-      less : {o : Order} → o ≡ Less → o ≡ Greater → ⊥
-      less q g = let z : _≡_ {A = ℕ} 0 1 = cc in omega arith
-
-      go : (o : Order) → pointOrder (pointOf e) (pointOf f) ≡ o → ¬ (pointOrder (pointOf (leftBy o e f)) (pointOf e) ≡ Greater)
-      go Less q g = no (point-itself (pointOf e)) g
-      go Equal q g = pair (e .included) g
+      go : (o : Order) → pointOrder (pointOf e) (pointOf f) ≡ o → pointOrder (pointOf e) (pointOf e) ≡ Equal → ¬ (pointOrder (pointOf (leftBy o e f)) (pointOf e) ≡ Greater)
+      go Less q i g = no (cc)
+      go Equal q i g = pair (e .included) (back q) g
         where
-          pair : (m : Bool) → pointOrder (pointOf (cond m f e)) (pointOf e) ≡ Greater → ⊥
-          pair true g = no (back q) g
-          pair false g = no (point-itself (pointOf e)) g
-      go Greater q g = less (back q) g
+          pair : (m : Bool) → pointOrder (pointOf f) (pointOf e) ≡ Equal → pointOrder (pointOf (cond m f e)) (pointOf e) ≡ Greater → ⊥
+          pair true b g = no (cc)
+          pair false b g = no (cc)
+      go Greater q i g = let b = back q in no (cc)

@@ -2,8 +2,6 @@
 use mathlib.Core.Path.{_≡_, refl, sym, ap, _∙_}
 use mathlib.Core.Logic.{_⊎_, inl, inr, ⊎-elim}
 use mathlib.Core.Bool.{Bool, true, false, cond, _&&_}
-use Prim.Native.Nat.{ℕ}
-use native.Mathlib.Omega.{arith}
 use lib.IntN.{ℤ, pos}
 use Rattle.integers.proofs.Order.{<→≢, Tri, less, same, more, tri}
 use Rattle.orientation.specs.Turn.{turnOf, isStraight}
@@ -23,19 +21,17 @@ use Rattle.line_segment.specs.Piece.{pointOf, endOrder, HasLength}
 use Rattle.line_segment.specs.Geometry.{side, Common, OneLine}
 use Rattle.line_segment.specs.Segment.{stretchBy, stretchOf, intersectOf, inBounds, containsOf, cramerOf, crossingOf}
 use Rattle.line_segment.specs.Demand.{saysYes, saysOverlap, Meet, SaysYesExactly, OverlapExactly, SameWhicheverAsks, CrossingIsCramers, OverlapEnds, ContainsExactly}
+use Rattle.line_segment.proofs.Booleans.{no, clash, both}
 use Rattle.line_segment.proofs.Holding.{in-bounds, holds-between}
 use Rattle.line_segment.proofs.Sides.{tilt, one-point}
 pub use Rattle.line_segment.proofs.CramersPoint.{crossing-stays-bounded}
 use Rattle.line_segment.proofs.CramersPoint.{cramer-first, cramer-second, cramer-positive, crossing-swapped, crossing-lowest, crossing-same}
 use Rattle.line_segment.proofs.Along.{leads}
-use Rattle.line_segment.proofs.Lying.{whole, both, same-lies, End, end-on, lies-between, between-lies}
+use Rattle.line_segment.proofs.Lying.{whole, same-lies, End, end-on, lies-between, between-lies}
 use Rattle.line_segment.proofs.TwoLines.{level, one-line-turned, OneSided, above, below, outside}
 use Rattle.line_segment.proofs.Cases.{Case, aligned, touched, touching, astride, second-aside, first-aside, cases}
 use Rattle.line_segment.proofs.Crossings.{touch-lies, lies-touch, touch-plain, astride-tilted, astride-common}
 use Rattle.line_segment.proofs.Stretches.{stretch-turned, stretch-meets, meets-stretch, overlap-part}
-
-clash : {A : Type 0} → false ≡ true → A
-clash e = absurd (let z : _≡_ {A = ℕ} 0 1 = cc in omega arith)
 
 -- ---- answers
 overlap-yes : (m : Meeting) → saysOverlap m ≡ true → saysYes m ≡ true
@@ -49,13 +45,13 @@ module _ (a b : LineSegment) where
   stretch-never = never (endOrder _ _) _
     where
       never : (o : Order) (s : LineSegment) → stretchBy o s ≡ Crossing → ⊥
-      never Less s e = let z : _≡_ {A = ℕ} 0 1 = cc in omega arith
+      never Less s e = no (cc)
       never Equal s e = marked (s .max .included && s .min .included) e
         where
           marked : (m : Bool) → cond m (Overlap s) Nothing ≡ Crossing → ⊥
-          marked true e = let z : _≡_ {A = ℕ} 0 1 = cc in omega arith
-          marked false e = let z : _≡_ {A = ℕ} 0 1 = cc in omega arith
-      never Greater s e = let z : _≡_ {A = ℕ} 0 1 = cc in omega arith
+          marked true e = no (cc)
+          marked false e = no (cc)
+      never Greater s e = no (cc)
 
   stretch-overlap : saysYes (stretchOf a b) ≡ true → saysOverlap (stretchOf a b) ≡ true
   stretch-overlap y = go (stretchOf a b) refl y
@@ -128,8 +124,8 @@ module _ (a b : LineSegment) (la : HasLength a) (lb : HasLength b) where
   crossing-tilted (touched end on ne) e = ne
   crossing-tilted (touching end on ne) e = ne
   crossing-tilted (astride k l) e = astride-tilted a b la lb k
-  crossing-tilted (second-aside k) e = absurd (let z : _≡_ {A = ℕ} 0 1 = cc in omega arith)
-  crossing-tilted (first-aside k) e = absurd (let z : _≡_ {A = ℕ} 0 1 = cc in omega arith)
+  crossing-tilted (second-aside k) e = no (cc)
+  crossing-tilted (first-aside k) e = no (cc)
 
 -- ---- the promises
 pub says-yes-exactly : SaysYesExactly

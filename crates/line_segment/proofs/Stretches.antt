@@ -3,7 +3,7 @@ use mathlib.Core.Path.{_≡_, refl, sym, ap, ap₂, _∙_, subst}
 use mathlib.Core.Logic.{_⊎_, inl, inr}
 use mathlib.Core.Bool.{Bool, true, false, cond, _&&_}
 use mathlib.Core.List.{[], _∷_}
-use Prim.Native.Nat.{ℕ, _<_}
+use Prim.Native.Nat.{_<_}
 use native.Mathlib.Omega.{arith}
 use lib.IntN.{ℤ, pos, _+ℤ_, _-ℤ_, _*ℤ_}
 use lib.Signed.{_<ℤ_}
@@ -22,9 +22,10 @@ use Rattle.line_segment.specs.Piece.{pointOf, endOrder, HasLength}
 use Rattle.line_segment.specs.Geometry.{run, rise, side, admits, LiesOn, Common, OneLine}
 use Rattle.line_segment.specs.Segment.{moment, rightmostOf, leftmostOf, stretchBy, stretchOf}
 use Rattle.line_segment.specs.Demand.{saysYes, Meet, CommonPart}
+use Rattle.line_segment.proofs.Booleans.{no, clash, both}
 use Rattle.line_segment.proofs.Sides.{side-line, min-on, max-on}
 use Rattle.line_segment.proofs.Along.{leads}
-use Rattle.line_segment.proofs.Lying.{whole, both, same-side, not-after, closed-of, closed-line, closed-from, closed-upto}
+use Rattle.line_segment.proofs.Lying.{whole, same-side, not-after, closed-of, closed-line, closed-from, closed-upto}
 use Rattle.line_segment.proofs.TwoLines.{carried, one-line-turned}
 use Rattle.line_segment.proofs.Picking.{from-both, upto-both, rightmost-is, leftmost-is, rightmost-turned, leftmost-turned, rightmost-after, leftmost-before}
 
@@ -78,9 +79,6 @@ stretch a b = record { min = rightmostOf (a .min) (b .min); max = leftmostOf (a 
 pub stretch-turned : (a b : LineSegment) → stretchOf a b ≡ stretchOf b a
 unfolding stretchOf
 stretch-turned a b = rw (rightmost-turned (a .min) (b .min), leftmost-turned (a .max) (b .max))
-
-clash : {A : Type 0} → false ≡ true → A
-clash e = absurd (let z : _≡_ {A = ℕ} 0 1 = cc in omega arith)
 
 module _ (a b : LineSegment) (la : HasLength a) (lb : HasLength b) (o : OneLine a b) where
   -- both its ends are on the line
@@ -165,7 +163,7 @@ module _ (a b : LineSegment) (la : HasLength a) (lb : HasLength b) (o : OneLine 
     runs = at-most-trans first p last (whole (stretch a b .min)) d (whole (stretch a b .max)) from-at-most upto-at-most
 
     no-less : {o : Order} → o ≡ Less → o ≡ Equal → ⊥
-    no-less e f = let z : _≡_ {A = ℕ} 0 1 = cc in omega arith
+    no-less e f = no (cc)
 
     -- where the stretch is one point, both ends count
     closes : (o : Order) (m : Bool) → admits o m ≡ true → ¬ (o ≡ Less) → m ≡ true
@@ -281,10 +279,10 @@ module _ (a b : LineSegment) (la : HasLength a) (lb : HasLength b) (o : OneLine 
     where
       go : (q : Order) → pointOrder (pointOf (stretch a b .min)) (pointOf (stretch a b .max)) ≡ q → stretchBy q (stretch a b) ≡ Overlap t
           → (stretch a b ≡ t) × ¬ (pointOrder (pointOf (stretch a b .min)) (pointOf (stretch a b .max)) ≡ Greater)
-      go Less q e = (cc, λ g. absurd (let z : _≡_ {A = ℕ} 0 1 = cc in omega arith))
-      go Equal q e = (marked (stretch a b .max .included && stretch a b .min .included) e, λ g. absurd (let z : _≡_ {A = ℕ} 0 1 = cc in omega arith))
+      go Less q e = (cc, λ g. no (cc))
+      go Equal q e = (marked (stretch a b .max .included && stretch a b .min .included) e, λ g. no (cc))
         where
           marked : (m : Bool) → cond m (Overlap (stretch a b)) Nothing ≡ Overlap t → stretch a b ≡ t
           marked true e = cc
-          marked false e = absurd (let z : _≡_ {A = ℕ} 0 1 = cc in omega arith)
-      go Greater q e = absurd (let z : _≡_ {A = ℕ} 0 1 = cc in omega arith)
+          marked false e = no (cc)
+      go Greater q e = no (cc)

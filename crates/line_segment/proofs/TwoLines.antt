@@ -3,8 +3,7 @@ use mathlib.Core.Path.{_≡_, sym, ap, _∙_, subst}
 use mathlib.Core.Logic.{⊎-elim}
 use mathlib.Core.Bool.{Bool, true}
 use mathlib.Core.List.{[], _∷_}
-use Prim.Native.Nat.{ℕ, _<_}
-use native.Mathlib.Omega.{arith}
+use Prim.Native.Nat.{_<_}
 use lib.IntN.{ℤ, pos, negℤ, _+ℤ_, _-ℤ_, _*ℤ_, *ℤ-zero, +ℤ-comm}
 use lib.Signed.{_≤ℤ_, _<ℤ_, clashℤ}
 use Rattle.integers.proofs.Identity.{by-ring, terms}
@@ -20,6 +19,7 @@ use Rattle.fractions.proofs.Orders.{Answer, is-less, is-equal, is-greater, answ
 use Rattle.line_segment.specs.declared.LineSegment.{LineSegment}
 use Rattle.line_segment.specs.Piece.{pointOf}
 use Rattle.line_segment.specs.Geometry.{run, rise, side, admits, LiesOn, OneLine}
+use Rattle.line_segment.proofs.Booleans.{no}
 use Rattle.line_segment.proofs.Sides.{tilt, tilt-first, tilt-second}
 use Rattle.line_segment.proofs.Along.{Leads, rightward, upward, past, short, past-order, short-order, past-short, length², length-positive, weighed}
 
@@ -158,4 +158,4 @@ module _ (a b : LineSegment) (p : Point) (l : Leads b) (d : 0 < p .d) (on-a : si
       ahead : {z : ℤ} {o : Order} (m : Bool) → Answer (pos 0) z o → admits o m ≡ true → pos 0 ≤ℤ z
       ahead m (is-less h) e = <→≤ h
       ahead m (is-equal h) e = ≡→≤ h
-      ahead m (is-greater h) e = absurd (let z : _≡_ {A = ℕ} 0 1 = cc in omega arith)
+      ahead m (is-greater h) e = no (cc)
