@@ -28,6 +28,15 @@ typedef struct {
     mirtalughe_end min, max;
 } mirtalughe_met;
 
+/* Where two pieces meet, each value the double nearest to the exact one. `meets` is 0 for nothing, 1
+   for at x1, y1, 2 for along from x1, y1 to x2, y2. Values that are not in use are zero. */
+typedef struct {
+    uint8_t number;
+    size_t place;
+    uint8_t meets;
+    double x1, y1, x2, y2;
+} mirtalughe_placed;
+
 /* Which way the three points turn: 1 counter-clockwise, -1 clockwise, 0 not at all. */
 int8_t mirtalughe_orient(int16_t x1, int16_t y1, int16_t x2, int16_t y2, int16_t x3, int16_t y3);
 
@@ -41,5 +50,8 @@ mirtalughe_answer mirtalughe_read(const uint8_t *file, size_t size, int32_t *lis
 
 /* How the two pieces of ten numbers meet, the first one asking. */
 mirtalughe_met mirtalughe_meeting(const int32_t *list, size_t length);
+
+/* Where the two pieces of ten numbers meet. */
+mirtalughe_placed mirtalughe_place(const int32_t *list, size_t length);
 
 #endif

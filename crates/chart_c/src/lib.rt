@@ -3,15 +3,18 @@ ghost use mathlib.Core.Path.{_≡_};
 ghost use Rattle.orientation.specs.Turn.{det, turnOf};
 ghost use Rattle.fractions.specs.Point.{pointOrder};
 ghost use Rattle.charts.specs.Pair.{meetingOf};
+ghost use Rattle.place.specs.Pair.{placeAnswerOf};
 ghost use Rattle.chart_file.specs.Reading.{Reads};
 ghost use Rattle.chart_c.specs.Numbers.{turnNumber, orderNumber, pointOf};
 ghost use Rattle.chart_c.specs.Meetings.{noEnd, endFields, metAs, fieldsOf};
+ghost use Rattle.chart_c.specs.Places.{placedAs, placedOf};
 use charts::Answer;
 use fractions::Order;
 use fractions::Point;
 use line_segment::EndPoint;
 use line_segment::Meeting;
 use orientation::Orientation;
+use place::Place;
 
 // An end of a stretch.
 #[repr(C)]
@@ -30,6 +33,18 @@ pub struct Met {
     pub meets: u8,
     pub min: End,
     pub max: End,
+}
+
+// Where two pieces meet, in binary64: `meets` is 0 for nothing, 1 at x1, y1 and 2 along from there to x2, y2.
+#[repr(C)]
+pub struct Placed {
+    pub number: u8,
+    pub place: usize,
+    pub meets: u8,
+    pub x1: f64,
+    pub y1: f64,
+    pub x2: f64,
+    pub y2: f64,
 }
 
 // Which way the three points turn, as its number.
@@ -137,4 +152,48 @@ pub extern "C" fn mirtalughe_meeting(list: &[i32]) -> Met
     let answer = charts::meeting_of(list);
     let meeting = answer.meeting;
     fields(answer.number, answer.place, meeting)
+}
+
+fn values(number: u8, place: usize, meeting: Place) -> Placed
+    ensures { λ r. ⌜ r ≡ placedAs number place meeting ⌝ }
+{
+    match meeting {
+        Place::Nothing => Placed {
+            number,
+            place,
+            meets: 0,
+            x1: 0.0,
+            y1: 0.0,
+            x2: 0.0,
+            y2: 0.0,
+        },
+        Place::At(p) => Placed {
+            number,
+            place,
+            meets: 1,
+            x1: p.x,
+            y1: p.y,
+            x2: 0.0,
+            y2: 0.0,
+        },
+        Place::Along(p, q) => Placed {
+            number,
+            place,
+            meets: 2,
+            x1: p.x,
+            y1: p.y,
+            x2: q.x,
+            y2: q.y,
+        },
+    }
+}
+
+// Where the two pieces of ten numbers meet.
+#[no_mangle]
+pub extern "C" fn mirtalughe_place(list: &[i32]) -> Placed
+    ensures { λ r. ⌜ r ≡ placedOf (placeAnswerOf (now (list .entry))) ⌝ }
+{
+    let answer = place::pair_place(list);
+    let meeting = answer.meeting;
+    values(answer.number, answer.place, meeting)
 }

@@ -192,6 +192,52 @@ pub fn near_ties(random: &mut Random) -> Chart {
   })
 }
 
+/// Two pieces that cross at an x as near to half way between two binary64 values as its D allows.
+pub fn near_halves(random: &mut Random) -> Chart {
+  loop {
+    let digits = random.between(0, 14);
+    let x = random.between(1 << digits, (2 << digits) - 1);
+    let y = random.between(-9_000, 9_000);
+    let mut part = |most: i32| random.between(1, most);
+    let (r, s) = (part(1 << digits), part(20_000));
+    let (t, u) = (part(16_000), -part(20_000));
+    let (side, mirror) = (random.pick(&[-1, 1]), random.pick(&[-1, 1]));
+    if let Some([x1, y1]) = near_half([x, y, r, s, t, u].map(i128::from), digits, side) {
+      let piece = |x, y, run, rise| [3, mirror * x, y, mirror * (x + run), y + rise];
+      return vec![piece(x, y, r, s), piece(x1, y1, t, u)];
+    }
+  }
+}
+
+/// Where a piece begins that goes t to the right and u up and crosses the piece from x, y, which goes r and s,
+/// at X over D with X 2^(53 - digits) an odd multiple of D and 1 more or less; none where there is none.
+fn near_half([x, y, r, s, t, u]: [i128; 6], digits: i32, side: i128) -> Option<[i32; 2]> {
+  let d = s * t - r * u;
+  let half = inverse(2, d)?;
+  let rest = (0..52 - digits).fold((d + side) / 2 % d, |v, _| v * half % d);
+  // X is `rest` modulo D, and modulo r what the first piece has it be
+  let own = t * (r * y - x * s);
+  let whole = (-own - rest) * inverse(d, r)?;
+  let whole = (whole - x).rem_euclid(r) + x;
+  let moment = (whole * d + rest + own) / r;
+  // the second piece begins at x1, y1 with y1 t - x1 u = moment, at most t to the left of X
+  let x1 = moment * inverse(-u, t)?;
+  let x1 = whole - (whole - x1).rem_euclid(t);
+  let y1 = (x1 * u + moment) / t;
+  let fits = |v: i128| v.abs() <= LIMIT.into();
+  let on_chart = [x1, y1, x1 + t, y1 + u, x + r, y + s].into_iter().all(fits);
+  (on_chart && whole < 2 << digits).then_some([x1 as i32, y1 as i32])
+}
+
+/// The number whose product with v is 1 modulo m, if there is one.
+fn inverse(v: i128, m: i128) -> Option<i128> {
+  let (mut a, mut b, mut p, mut q) = (v.rem_euclid(m), m, 1, 0);
+  while b != 0 {
+    (a, b, p, q) = (b, a % b, q, p - a / b * q);
+  }
+  (a == 1).then_some(p.rem_euclid(m))
+}
+
 fn piece(random: &mut Random, mut end: impl FnMut(&mut Random) -> [i32; 2]) -> Piece {
   let ([x1, y1], [x2, y2]) = (end(random), end(random));
   [random.kind(), x1, y1, x2, y2]

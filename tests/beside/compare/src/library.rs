@@ -9,6 +9,7 @@ unsafe extern "C" {
   safe fn mirtalughe_orient(x1: i16, y1: i16, x2: i16, y2: i16, x3: i16, y3: i16) -> i8;
   safe fn mirtalughe_compare_points(x1: i64, y1: i64, d1: u64, x2: i64, y2: i64, d2: u64) -> i8;
   fn mirtalughe_meeting(list: *const i32, length: usize) -> Met;
+  fn mirtalughe_place(list: *const i32, length: usize) -> Placed;
   fn mirtalughe_read(file: *const u8, size: usize, list: *mut i32, lent: usize) -> Answer;
 }
 
@@ -26,6 +27,14 @@ struct MetEnd {
   x: i16,
   y: i16,
   included: bool,
+}
+
+#[repr(C)]
+struct Placed {
+  number: u8,
+  place: usize,
+  meets: u8,
+  values: [f64; 4],
 }
 
 pub fn orient(p: [i32; 2], q: [i32; 2], r: [i32; 2]) -> Side {
@@ -64,6 +73,24 @@ pub fn meeting(list: &[i32]) -> Result<Meeting, Refusal> {
     (0, 1) if met.place == 0 => Ok(Meeting::Crossing),
     (number, 0) if number > 0 => Err((number, met.place)),
     (number, meets) => panic!("number {number}, meets {meets}, place {}", met.place),
+  }
+}
+
+/// The values of the place of the meeting, by their bits, or why the list is refused.
+pub fn place(list: &[i32]) -> Result<Vec<u64>, Refusal> {
+  let placed = unsafe { mirtalughe_place(list.as_ptr(), list.len()) };
+  let bits = placed.values.map(f64::to_bits);
+  let (used, unused) = bits.split_at(match (placed.number, placed.meets) {
+    (0, meets @ 0..=2) if placed.place == 0 => 2 * usize::from(meets),
+    (1.., 0) => 0,
+    (number, meets) => panic!("number {number}, meets {meets}, place {}", placed.place),
+  });
+  if unused.iter().any(|v| *v != 0) {
+    panic!("a value that is not in use is not zero");
+  }
+  match placed.number {
+    0 => Ok(used.to_vec()),
+    number => Err((number, placed.place)),
   }
 }
 

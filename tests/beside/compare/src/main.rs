@@ -110,6 +110,7 @@ fn gate() -> Vec<Family> {
     random("degenerate", GATE_SEED, 17_000, charts::degenerate),
     random("extreme", GATE_SEED, 3_000, charts::extreme),
     random("near-tied", GATE_SEED, 2_000, charts::near_ties),
+    random("half-way", GATE_SEED, 2_000, charts::near_halves),
     random("any-size", GATE_SEED, 300, charts::any_size),
     random("full-size", GATE_SEED, 1_000, charts::full_size),
   ]
@@ -120,6 +121,7 @@ fn long(seed: u64, count: usize) -> Vec<Family> {
     random("degenerate", seed, count, charts::degenerate),
     random("extreme", seed, count, charts::extreme),
     random("near-tied", seed, count, charts::near_ties),
+    random("half-way", seed, count, charts::near_halves),
     random("any-size", seed, count, charts::any_size),
     random("full-size", seed, count, charts::full_size),
   ]

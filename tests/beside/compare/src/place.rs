@@ -1,22 +1,38 @@
-//! The place of a crossing in binary64: the Rust's conversion, the model.
+//! The place of a meeting in binary64: the Rust's exact answer and its conversion, the library, the model.
 
-use crate::answers::Meeting;
+use crate::answers::{End, Meeting, Point};
 use crate::case::{Case, same};
-use crate::original;
+use crate::{library, original};
 
 pub fn compare(case: &Case) -> Result<(), String> {
   for (a, b) in case.pairs() {
-    if case.original.meeting(a, b) != Meeting::Crossing {
-      continue;
-    }
-    if let Some(p) = case.original.crossing(a, b) {
-      let nearest = [nearest(p.x, p.d), nearest(p.y, p.d)];
-      let bits = |place: [f64; 2]| place.map(f64::to_bits);
-      let call = || format!("place of the meeting of {a} and {b}");
-      same(call, bits(original::place(&p)), "model", bits(nearest))?;
-    }
+    let call = || format!("place of the meeting of {a} and {b}");
+    let rust = match case.original.meeting(a, b) {
+      Meeting::Nothing => vec![],
+      Meeting::Crossing => {
+        let p = case.original.crossing(a, b).ok_or("no point")?;
+        let rust = bits(&original::place(&p));
+        same(call, &rust, "model", &bits(&nearest_point(&p)))?;
+        rust
+      }
+      Meeting::Overlap(from, to) => [whole(&from), whole(&to)].concat(),
+    };
+    let ten = [case.chart[a], case.chart[b]].concat();
+    same(call, Ok(rust), "library", library::place(&ten))?;
   }
   Ok(())
+}
+
+fn bits(values: &[f64]) -> Vec<u64> {
+  values.iter().map(|v| v.to_bits()).collect()
+}
+
+fn whole(end: &End) -> Vec<u64> {
+  bits(&[end.x as f64, end.y as f64])
+}
+
+fn nearest_point(p: &Point) -> [f64; 2] {
+  [nearest(p.x, p.d), nearest(p.y, p.d)]
 }
 
 /// The binary64 nearest to x / d, ties to even.

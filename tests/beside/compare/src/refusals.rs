@@ -38,6 +38,14 @@ fn compare_pair_call(list: &[i32]) -> Result<(), String> {
     refusal,
     "library",
     library::meeting(list).err(),
+  )?;
+  let call = || format!("refusal of the place of {list:?}");
+  agree(
+    call,
+    "model",
+    refusal,
+    "library",
+    library::place(list).err(),
   )
 }
 
