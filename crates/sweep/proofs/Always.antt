@@ -2,7 +2,7 @@
 -- active list.
 use mathlib.Core.Path.{_≡_, refl, ap, subst}
 use mathlib.Core.Logic.{_⊎_, inl, inr, ⊎-elim, _≢_}
-use mathlib.Core.Bool.{Bool, true, false, _&&_, _||_, not}
+use mathlib.Core.Bool.{Bool, true, _||_, not}
 use mathlib.Core.Option.{Option, none, some}
 use mathlib.Core.List.{List, [], _∷_, _++_, map, append-nil, List·Memᴰ·append-cases, Memᴰ·append-right, Memᴰ·map, Memᴰ·of-map}
 use mathlib.Core.List.{List·Memᴰ as In, List·Memᴰ·head as here, List·Memᴰ·tail as there}
@@ -15,15 +15,16 @@ use Rattle.sweep.specs.Lists.{Pair, upto, keep, pairs, lesser-first, adj
 use Rattle.sweep.specs.Chart.{Chart, same, at}
 use Rattle.sweep.specs.State.{Marks, State, start}
 use Rattle.sweep.specs.Queue.{ends, beyond, queue, next}
-use Rattle.sweep.specs.Step.{each, starts, finishes, turns, takes-part, pieces, report, drop, reported, examine, stay, enter, ranged, examined, step}
+use Rattle.sweep.specs.Step.{each, starts, turns, takes-part, pieces, report, drop, reported, examine, stay, enter, ranged, examined, step}
 use Rattle.sweep.specs.Run.{move-to, move, onwards, run, taken, visited, is-none, answer-of, answer}
 use Rattle.sweep.specs.Sought.{occurring, meeting}
 use Rattle.sweep.specs.Geometry.{Occurs, PointsOrdered}
 use Rattle.sweep.specs.Demand.{Pieces, AlwaysPromises}
-use Rattle.sweep.proofs.Tests.{clash, and-both, or-one, neither, not-true, ltb-yes, ltb-no}
-use Rattle.sweep.proofs.Lists.{keep-out, keep-fewer, any-out, pairwise-map, pairwise-append, pairwise-keep}
+use Rattle.sweep.proofs.Tests.{clash, and-both, or-one, not-true, ltb-yes, ltb-no}
+use Rattle.sweep.proofs.Lists.{keep-out, keep-fewer, any-out, pairwise-append, pairwise-keep}
 use Rattle.sweep.proofs.Sorting.{sort-out, sort-once}
 use Rattle.sweep.proofs.Pairs.{upto-out, upto-up, pairs-out, lesser-two, lesser-up, adjacent-out}
+use Rattle.sweep.proofs.Active.{stay-out, enter-out, stay-once, enter-once}
 use Rattle.sweep.proofs.Occurring.{occurring-length, ends-out, end-occurs, at-occurs, min-occurs}
 use Rattle.sweep.proofs.Rank.{keep-more}
 use Rattle.sweep.proofs.Ranked.{Keyed, keys, less-true, less-yes, same-true, same-false}
@@ -94,25 +95,13 @@ module _ (C : Chart) (O : PointsOrdered C) where
           (λ (h : eqb i (q .1) ≡ true). let d = eqb-true i (q .1) h in rw d (w .0 .1, omega (arith, w)))
           (or-one (eqb i (q .0)) (eqb i (q .1)) (u .1))
 
-      stay-out : (i : ℕ) → In i (stay C s p) → In i (s .active) × (turns C s p i ≡ false)
-      unfolding stay
-      stay-out i m =
-          let r = keep-out (λ j. not (finishes C p j || turns C s p j)) (s .active) m in
-          (r .0, (neither (finishes C p i) (turns C s p i) (not-true _ (r .1))) .1)
-
-      enter-out : (i : ℕ) → In i (enter C s p) → (i < n) × ((starts C p i ≡ true) ⊎ (turns C s p i ≡ true))
-      unfolding enter
-      enter-out i m =
-          let r = keep-out (λ j. (starts C p j || turns C s p j) && not (finishes C p j)) (upto n) m in
-          (upto-out n (r .0), or-one (starts C p i) (turns C s p i) ((and-both (starts C p i || turns C s p i) (not (finishes C p i)) (r .1)) .0))
-
       stay-begun : (i : ℕ) → In i (stay C s p) → (i < n) × (key (min i) ≤ key p)
-      stay-begun i m = let b = S .begun i ((stay-out i m) .0) in let t = next-new in (b .0, omega arith)
+      stay-begun i m = let b = S .begun i ((stay-out C s p i m) .0) in let t = next-new in (b .0, omega arith)
 
       enter-begun : (i : ℕ) → In i (enter C s p) → (i < n) × (key (min i) ≤ key p)
       unfolding starts
       enter-begun i m =
-          let r = enter-out i m in
+          let r = enter-out C s p i m in
           ⊎-elim
           (λ (e : starts C p i ≡ true). (r .0, omega (arith, same-true C K (min i) p (min-occurs C i (r .0)) next-occurs e)))
           (λ (e : turns C s p i ≡ true). turns-begun i e)
@@ -123,32 +112,22 @@ module _ (C : Chart) (O : PointsOrdered C) where
       ranged-begun i m =
           ⊎-elim (λ (h : In i (stay C s p)). stay-begun i h) (λ (h : In i (enter C s p)). enter-begun i h) (List·Memᴰ·append-cases (stay C s p) (sort-out (before p) (stay C s p ++ enter C s p) m))
 
-      stay-distinct : Pairwise (λ i j. i ≢ j) (stay C s p)
-      unfolding stay
-      stay-distinct = pairwise-keep (λ i j. i ≢ j) (λ j. not (finishes C p j || turns C s p j)) (s .active) (S .distinct)
-
-      enter-distinct : Pairwise (λ i j. i ≢ j) (enter C s p)
-      unfolding enter
-      enter-distinct =
-          pairwise-keep (λ i j. i ≢ j) (λ j. (starts C p j || turns C s p j) && not (finishes C p j)) (upto n)
-          (pairwise-map _<_ (λ i j. i ≢ j) (upto n) (λ x y a b h. omega arith) (upto-up n))
-
       -- a piece that starts at p has not begun before, and one that turns has just left
       apart : (i j : ℕ) → In i (stay C s p) → In j (enter C s p) → i ≢ j
       unfolding starts
       apart i j a b e =
-          let r = stay-out i a in
-          let t = enter-out j b in
+          let r = stay-out C s p i a in
+          let t = enter-out C s p j b in
           let u = S .begun i (r .0) in
           let w = next-new in
           ⊎-elim
           (λ (h : starts C p j ≡ true). omega (arith, same-true C K (min j) p (min-occurs C j (t .0)) next-occurs h, ap (λ (x : ℕ). key (min x)) e))
-          (λ (h : turns C s p j ≡ true). clash (rw e h) (r .1))
+          (λ (h : turns C s p j ≡ true). clash (rw e h) (r .2))
           (t .1)
 
       ranged-distinct : Pairwise (λ i j. i ≢ j) (ranged C s p)
       unfolding ranged
-      ranged-distinct = sort-once (before p) (stay C s p ++ enter C s p) (pairwise-append (λ i j. i ≢ j) (stay C s p) (enter C s p) stay-distinct enter-distinct apart)
+      ranged-distinct = sort-once (before p) (stay C s p ++ enter C s p) (pairwise-append (λ i j. i ≢ j) (stay C s p) (enter C s p) (stay-once C s p (S .distinct)) (enter-once C s p) apart)
 
       adjacent-begun : (l : List ℕ) → ((i : ℕ) → In i l → (i < n) × (key (min i) ≤ key p)) → Pairwise (λ i j. i ≢ j) l → (q : Pair) → In q (adjacent l) → Begun C O p q
       adjacent-begun l f d q m =
@@ -191,7 +170,7 @@ module _ (C : Chart) (O : PointsOrdered C) where
           record {
             last-occurs = λ q e. let d : p ≡ q = cc in subst (Occurs C) d next-occurs;
             fair = look (adjacent (ranged C s p)) _ (adjacent-begun (ranged C s p) ranged-begun ranged-distinct)
-                (look (adjacent (stay C s p)) (reported C s p) (adjacent-begun (stay C s p) stay-begun stay-distinct) reported-fair);
+                (look (adjacent (stay C s p)) (reported C s p) (adjacent-begun (stay C s p) stay-begun (stay-once C s p (S .distinct))) reported-fair);
             begun = λ i m. let b = ranged-begun i m in (b .0, omega arith);
             distinct = ranged-distinct;
           }

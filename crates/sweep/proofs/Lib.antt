@@ -3,7 +3,7 @@
 --   what holds on every chart                        Always      always
 --   the strong statement                             Theorem     sweeps
 --   whatever the geometry: runs add up, lists grow   Runs        runs-on, lists-on, steps-visited
---   one step                                         Stepped     step-inv; Reported, Examined: what it lists, what waits
+--   one step                                         Stepped     step-inv; Active, Reported, Examined: who is active, what is listed, what waits
 --   what holds between steps, no crossing is missed  Between     Inv, no-crossing; Neighbours, Next
 --   the first common point                           First       first-on, first-least
 --   points by their keys; which points occur         Ranked      less-true, same-true; Occurring: occurs-out
@@ -14,6 +14,7 @@ pub mod Lists
 pub mod Sorting
 pub mod Pairs
 pub mod Rank
+pub mod Active
 pub mod Occurring
 pub mod Ranked
 pub mod Least

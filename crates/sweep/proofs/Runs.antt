@@ -7,11 +7,11 @@ use Prim.Native.Nat.{ℕ, zero, suc, _+_, _-_}
 use native.Mathlib.Omega.{arith}
 use native.Mathlib.Nat.{add-zero, add-suc}
 use lib.ListN.{length, length-append}
-use Rattle.sweep.specs.Lists.{Pair, among, last-of, pairs, adjacent}
+use Rattle.sweep.specs.Lists.{Pair, among, last-of}
 use Rattle.sweep.specs.Chart.{Kind, nothing, crosses, overlaps, Chart, meets, kind, at}
 use Rattle.sweep.specs.State.{Marks, State, start}
 use Rattle.sweep.specs.Queue.{next}
-use Rattle.sweep.specs.Step.{list, wait, each, report, drop, pieces, reported, examine-free, examine, stay, ranged, examined, step}
+use Rattle.sweep.specs.Step.{list, wait, each, report, drop, reported, examine-free, examine, examined, step}
 use Rattle.sweep.specs.Run.{move-to, move, onwards, run, taken, visited, answer-of, answer}
 use Rattle.sweep.specs.Demand.{LastVisited, RunsOn, ListsOn}
 
@@ -69,9 +69,9 @@ module _ (C : Chart) where
   step-adds : (s : State C) (p : Point) → Adds (s .marks) ((step C s p) .marks)
   unfolding step examined reported drop
   step-adds s p =
-      begins-trans (each-adds (report C) report-adds (pairs (pieces C s p)) (s .marks))
-      (begins-trans (each-adds (examine C p) (examine-adds p) (adjacent (stay C s p)) (reported C s p))
-      (each-adds (examine C p) (examine-adds p) (adjacent (ranged C s p)) _))
+      begins-trans (each-adds (report C) report-adds _ (s .marks))
+      (begins-trans (each-adds (examine C p) (examine-adds p) _ (reported C s p))
+      (each-adds (examine C p) (examine-adds p) _ _))
 
   move-adds : (s : State C) (o : Option Point) → Adds (s .marks) ((move-to C s o) .marks)
   unfolding move-to

@@ -1,6 +1,6 @@
 -- One step keeps what holds between steps, and lists the pairs that meet first at its point.
 use mathlib.Core.Path.{_≡_, ap, _∙_, subst}
-use mathlib.Core.Logic.{_⊎_, ⊎-elim, _≢_, by-cases}
+use mathlib.Core.Logic.{⊎-elim, _≢_, by-cases}
 use mathlib.Core.Bool.{true, false, _&&_, _||_, not}
 use mathlib.Core.Option.{some}
 use mathlib.Core.List.{List, _++_, Memᴰ·append-left, Memᴰ·append-right, List·Memᴰ·append-cases}
@@ -8,7 +8,7 @@ use mathlib.Core.List.{List·Memᴰ as In}
 use Prim.Native.Nat.{ℕ, _<_}
 use native.Mathlib.Omega.{arith}
 use native.Mathlib.Decide.{decLt}
-use Rattle.sweep.specs.Lists.{Pair, lesser-first, upto, adjacent, Pairwise}
+use Rattle.sweep.specs.Lists.{Pair, lesser-first, adjacent, Pairwise}
 use Rattle.sweep.specs.Chart.{Chart}
 use Rattle.sweep.specs.State.{Marks, State}
 use Rattle.sweep.specs.Queue.{next}
@@ -16,10 +16,11 @@ use Rattle.sweep.specs.Step.{each, starts, finishes, turns, reported, ex
 use Rattle.sweep.specs.Sought.{pairs-at}
 use Rattle.sweep.specs.Geometry.{Occurs}
 use Rattle.sweep.specs.Demand.{Pieces}
-use Rattle.sweep.proofs.Tests.{ask, clash, and-both, or-one, or-left, or-right, neither, not-true}
-use Rattle.sweep.proofs.Lists.{keep-in, keep-out, pairwise-map, pairwise-append, pairwise-keep}
+use Rattle.sweep.proofs.Tests.{ask, clash, or-left, or-right}
+use Rattle.sweep.proofs.Lists.{keep-in, pairwise-map, pairwise-append}
 use Rattle.sweep.proofs.Sorting.{sort-in, sort-out, sort-sorted}
-use Rattle.sweep.proofs.Pairs.{upto-in, upto-out, upto-up, lesser-two, adjacent-out}
+use Rattle.sweep.proofs.Pairs.{upto-in, lesser-two, adjacent-out}
+use Rattle.sweep.proofs.Active.{stay-out, enter-out, stay-once, enter-once}
 use Rattle.sweep.proofs.Occurring.{min-occurs, max-occurs}
 use Rattle.sweep.proofs.Ranked.{Act, Ranked, same-yes, same-true, same-false, same-no, Keyed}
 use Rattle.sweep.proofs.First.{pair-pieces}
@@ -35,24 +36,10 @@ module _ (C : Chart) (F : Ranked C) (s : State C) (I : Inv C F s) (p : C .Point)
   op : Occurs C p
   op = next-occurs C F s I p hp
 
-  stay-out : (i : ℕ) → In i (stay C s p) → In i (s .active) × (finishes C p i ≡ false) × (turns C s p i ≡ false)
-  unfolding stay
-  stay-out i m =
-      let r = keep-out (λ j. not (finishes C p j || turns C s p j)) (s .active) m in
-      let e = neither (finishes C p i) (turns C s p i) (not-true _ (r .1)) in
-      (r .0, e .0, e .1)
-
-  enter-out : (i : ℕ) → In i (enter C s p) → (i < n) × ((starts C p i ≡ true) ⊎ (turns C s p i ≡ true)) × (finishes C p i ≡ false)
-  unfolding enter
-  enter-out i m =
-      let r = keep-out (λ j. (starts C p j || turns C s p j) && not (finishes C p j)) (upto n) m in
-      let e = and-both (starts C p i || turns C s p i) (not (finishes C p i)) (r .1) in
-      (upto-out n (r .0), or-one (starts C p i) (turns C s p i) (e .0), not-true (finishes C p i) (e .1))
-
   stay-act : (i : ℕ) → In i (stay C s p) → Act C key p i
   unfolding finishes
   stay-act i m =
-      let r = stay-out i m in
+      let r = stay-out C s p i m in
       let o = I .active-out i (r .0) in
       let u = next-new C F s I p hp in
       let ne = same-false C (F .keyed) (max i) p (max-occurs C i (o .0)) op (r .1) in
@@ -61,7 +48,7 @@ module _ (C : Chart) (F : Ranked C) (s : State C) (I : Inv C F s) (p : C .Point)
   enter-act : (i : ℕ) → In i (enter C s p) → Act C key p i
   unfolding starts finishes
   enter-act i m =
-      let r = enter-out i m in
+      let r = enter-out C s p i m in
       let ne = same-false C (F .keyed) (max i) p (max-occurs C i (r .0)) op (r .2) in
       ⊎-elim
       (λ (e : starts C p i ≡ true). let d = same-true C (F .keyed) (min i) p (min-occurs C i (r .0)) op e in (r .0, omega arith, omega (arith, F .min-max i (r .0))))
@@ -71,22 +58,12 @@ module _ (C : Chart) (F : Ranked C) (s : State C) (I : Inv C F s) (p : C .Point)
   act : (i : ℕ) → In i (stay C s p ++ enter C s p) → Act C key p i
   act i m = ⊎-elim (λ h. stay-act i h) (λ h. enter-act i h) (List·Memᴰ·append-cases (stay C s p) m)
 
-  stay-once : Pairwise (λ i j. i ≢ j) (stay C s p)
-  unfolding stay
-  stay-once = pairwise-keep (λ i j. i ≢ j) (λ i. not (finishes C p i || turns C s p i)) (s .active) (I .once)
-
-  enter-once : Pairwise (λ i j. i ≢ j) (enter C s p)
-  unfolding enter
-  enter-once =
-      pairwise-keep (λ i j. i ≢ j) (λ i. (starts C p i || turns C s p i) && not (finishes C p i)) (upto n)
-      (pairwise-map _<_ (λ i j. i ≢ j) (upto n) (λ x y a b h. omega arith) (upto-up n))
-
   -- whoever enters was not active, or has just left
   apart : (i j : ℕ) → In i (stay C s p) → In j (enter C s p) → i ≢ j
   unfolding starts
   apart i j a b e =
-      let r = stay-out i a in
-      let t = enter-out j b in
+      let r = stay-out C s p i a in
+      let t = enter-out C s p j b in
       let o = I .active-out i (r .0) in
       let u = next-new C F s I p hp in
       ⊎-elim
@@ -95,7 +72,7 @@ module _ (C : Chart) (F : Ranked C) (s : State C) (I : Inv C F s) (p : C .Point)
       (t .1)
 
   once : Pairwise (λ i j. i ≢ j) (stay C s p ++ enter C s p)
-  once = pairwise-append (λ i j. i ≢ j) (stay C s p) (enter C s p) stay-once enter-once apart
+  once = pairwise-append (λ i j. i ≢ j) (stay C s p) (enter C s p) (stay-once C s p (I .once)) (enter-once C s p) apart
 
   ranged-line : Pairwise (λ i j. before p i j ≡ true) (ranged C s p)
   unfolding ranged
@@ -151,7 +128,7 @@ module _ (C : Chart) (F : Ranked C) (s : State C) (I : Inv C F s) (p : C .Point)
   once-looked = each (examine C p) (adjacent (stay C s p)) (reported C s p)
 
   first-look : After C F p op (adjacent (stay C s p)) (reported C s p) once-looked
-  first-look = examined-after C F p op (adjacent (stay C s p)) (reported C s p) (reported-good C s p F I hp) (adjacent-ok (stay C s p) stay-act stay-once)
+  first-look = examined-after C F p op (adjacent (stay C s p)) (reported C s p) (reported-good C s p F I hp) (adjacent-ok (stay C s p) stay-act (stay-once C s p (I .once)))
 
   second-look : After C F p op (adjacent (ranged C s p)) once-looked (examined C s p)
   unfolding examined
