@@ -47,7 +47,7 @@ zero-or-not : (n : ℕ) → (n ≡ 0) ⊎ (0 < n)
 zero-or-not zero = inl refl
 zero-or-not (suc n) = inr (omega arith)
 
-lowest-alike : (p q : Point) → pointOrder p q ≡ pointOrder (lowestOf (p .x) (p .y) (p .d)) q
+pub lowest-alike : (p q : Point) → pointOrder p q ≡ pointOrder (lowestOf (p .x) (p .y) (p .d)) q
 lowest-alike p q = go (zero-or-not g)
   where
     g : ℕ

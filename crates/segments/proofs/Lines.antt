@@ -1,5 +1,5 @@
 -- The order of heights at p's x, by the place where two lines meet.
-use mathlib.Core.Path.{_≡_, refl, sym, ap, _∙_, subst}
+use mathlib.Core.Path.{_≡_, refl, sym, ap, _∙_}
 use mathlib.Core.Bool.{true, false}
 use mathlib.Core.List.{[], _∷_}
 use Prim.Native.Nat.{ℕ, zero, suc, _<_}
@@ -8,7 +8,7 @@ use lib.Dec.{ltb}
 use lib.IntN.{ℤ, pos, negsuc, negℤ, _+ℤ_, _-ℤ_, _*ℤ_}
 use lib.Signed.{_≤ℤ_, _<ℤ_}
 use Rattle.integers.proofs.Identity.{by-ring, terms}
-use Rattle.integers.proofs.Signs.{<-diff, diff-<, <→≤, ≡-diff, diff-≡}
+use Rattle.integers.proofs.Signs.{<-diff, <→≤, ≡-diff}
 use Rattle.integers.proofs.Order.{<-cert, ≤-cert, ≡→≤, <→≢}
 use Rattle.integers.proofs.Naturals.{pos-<, <-pos}
 use Rattle.fractions.specs.Order.{order, andThen}
@@ -16,7 +16,7 @@ use Rattle.fractions.specs.Fraction.{ratioOrder}
 use Rattle.fractions.specs.declared.Order.{Order}
 use Rattle.fractions.specs.declared.Order.the-variants.{Less, Equal, Greater}
 use Rattle.fractions.specs.declared.Point.{Point}
-use Rattle.fractions.proofs.Orders.{Answer, is-less, is-equal, is-greater, answer, order-less, order-equal, order-greater, less-order, equal-order, greater-order}
+use Rattle.fractions.proofs.Orders.{Answer, is-less, is-equal, is-greater, answer, order-equal, less-order, equal-order, greater-order}
 use Rattle.fractions.proofs.Ratios.{order-scaled}
 use Rattle.line_segment.specs.declared.LineSegment.{LineSegment}
 use Rattle.line_segment.specs.Geometry.{run, rise}
@@ -25,23 +25,13 @@ use Rattle.charts.specs.Fault.{eqZ}
 use Rattle.charts.specs.Piece.{isUpright as is-upright}
 use Rattle.charts.proofs.Rows.{says-eq, is-true, is-false}
 use Rattle.sweep.specs.Ported.{isLess, isEqual, isUpright, heightAbove, heightBelow, heightOrder, slopeOrder, rankOrder}
+use Rattle.sweep_geometry.proofs.Heights.{order-diff}
 use Rattle.segments.specs.Heights.{lineOrder, levelAt}
 use Rattle.segments.proofs.Answers.{is-less-than}
 
 -- numbers as far apart compare alike
 order-apart : (a b a′ b′ : ℤ) → b -ℤ a ≡ b′ -ℤ a′ → order a b ≡ order a′ b′
-order-apart a b a′ b′ e = go (answer a b)
-  where
-    go : {o : Order} → Answer a b o → o ≡ order a′ b′
-    go (is-less h) = sym (order-less (diff-< (subst (λ (z : ℤ). pos 0 <ℤ z) e (<-diff h))))
-    go (is-equal h) = sym (order-equal (diff-≡ a′ b′ (sym e ∙ ≡-diff h)))
-    go (is-greater h) = sym (order-greater (diff-< (subst (λ (z : ℤ). pos 0 <ℤ z) (turn ∙ ap negℤ e ∙ back) (<-diff h))))
-      where
-        turn : a -ℤ b ≡ negℤ (b -ℤ a)
-        turn = by-ring (a ∷ b ∷ []) (search terms depth 60 fits 20000) tt
-
-        back : negℤ (b′ -ℤ a′) ≡ a′ -ℤ b′
-        back = by-ring (a′ ∷ b′ ∷ []) (search terms depth 60 fits 20000) tt
+order-apart a b a′ b′ e = order-diff a b ∙ ap (order (pos 0)) e ∙ sym (order-diff a′ b′)
 
 -- ---- the tilt of two lines, above 0 where b is the steeper
 module _ (a b : LineSegment) where

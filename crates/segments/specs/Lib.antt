@@ -1,2 +1,4 @@
+-- The array that the sweep's code asks for pieces. `Table` reads it as a chart; `Heights` is the order of lines that the
+-- code works by.
 pub mod Table
 pub mod Heights

@@ -167,6 +167,8 @@ pub fn crossing_beyond(table: &[i16], p: Point, i: u8, j: u8) -> bool
     )
 }
 
+// ---- pieces against each other and at a point
+
 // The segment test, piece i asking.
 pub fn test(table: &[i16], i: u8, j: u8) -> Meeting
     ensures { λ r. ⌜ r ≡ intersectOf (pieceIn (now (table .entry)) i) (pieceIn (now (table .entry)) j) ⌝ }
