@@ -5,7 +5,7 @@
 --   a crossing's lines are not parallel            Parallel    no-crossing
 --   the pieces of a list, of a call                Given       given-in-range;  Typed  typed-piece
 --   where two i16 pieces meet                      Held        meeting-in, crossing-held, held-known
---   statements of specs/Demand                     Due; one result for each contract: Once
+--   statements of specs/Demand                     Due; one result for each contract: Once; computed: Examples
 pub mod Gap
 pub mod Units
 pub mod Apart
@@ -22,3 +22,4 @@ pub mod Typed
 pub mod Held
 pub mod Due
 pub mod Once
+pub mod Examples
