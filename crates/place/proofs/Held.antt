@@ -1,4 +1,4 @@
--- Binary64 holds the numbers of every point where two i16 pieces meet: `all-held`.
+-- Binary64 holds the numbers of every point where two i16 pieces meet: `held-known`, for an arm of a match on `exact`.
 -- Assumes nothing.
 use mathlib.Core.Path.{_≡_, refl, sym, ap, subst, _∙_}
 use mathlib.Core.Logic.{_⊎_, inl, inr}
@@ -48,8 +48,6 @@ of-terms {x} {y} {d = negsuc n} h k l = record { x = rw abs-neg (h .small); y = 
 cramer-sizes : (a b : LineSegment) → InRange a → InRange b → Sizes (cramerOf a b)
 unfolding cramerOf run rise moment
 cramer-sizes a b r s =
-    let ax = r .min .x in let ay = r .min .y in let az = r .max .x in let aw = r .max .y in
-    let bx = s .min .x in let by = s .min .y in let bz = s .max .x in let bw = s .max .y in
     of-terms (m-bound (search sized depth 60 fits 20000) tt) (m-bound (search sized depth 60 fits 20000) tt) (m-bound (search sized depth 60 fits 20000) tt)
 
 -- D is the size of the determinant, which is 0 only where the lines are parallel

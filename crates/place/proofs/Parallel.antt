@@ -1,11 +1,10 @@
 -- Where the test says Crossing the lines are not parallel, for any two pieces, of no length too: so Cramer's D is positive.
 -- Assumes nothing.
 use mathlib.Core.Path.{_≡_, refl, sym, ap, subst, _∙_}
-use mathlib.Core.Bool.{Bool, true, false, cond, _&&_, false≢true}
+use mathlib.Core.Bool.{Bool, true, false, cond, _&&_}
 use mathlib.Core.Logic.{_⊎_, inl, inr}
 use mathlib.Core.List.{List, [], _∷_}
-use Prim.Native.Nat.{ℕ, zero, suc}
-use native.Mathlib.Omega.{arith}
+use Prim.Native.Nat.{zero, suc}
 use lib.IntN.{ℤ, pos, negsuc, _-ℤ_, _*ℤ_}
 use Rattle.integers.proofs.Ring.{*ℤ-idr}
 use Rattle.integers.proofs.Identity.{by-ring, terms}
@@ -25,6 +24,7 @@ use Rattle.line_segment.specs.declared.Meeting.the-variants.{Nothing, Crossing,
 use Rattle.line_segment.specs.Geometry.{run, rise, admits}
 use Rattle.line_segment.specs.Piece.{pointOf, endOrder, joinBy, joinOf}
 use Rattle.line_segment.specs.Segment.{intersectOf, astrideOf, opposed, stretchBy, stretchOf, touchOf, turnTo, leftmostOf, rightmostOf, within, innerBetween}
+use Rattle.line_segment.proofs.Booleans.{both, no}
 use Rattle.place.proofs.Order.{no-later}
 
 abbrev Crosses : Meeting → Type 0
@@ -59,29 +59,24 @@ cases bMin bMax aMin aMax stretch byBMin byBMax byAMin byAMax =
 
 only-touch : (o p : Orientation) (s t u v w : Meeting) → ¬ Crosses s → Crosses (cases o o p p s t u v w) → ¬ (o ≡ CoLinear) × (p ≡ CoLinear) × Crosses v
 only-touch CoLinear p s t u v w n h = absurd (n h)
-only-touch CounterClockWise CoLinear s t u v w n h = (λ e. let z : _≡_ {A = ℕ} 0 1 = cc in omega arith, refl, h)
+only-touch CounterClockWise CoLinear s t u v w n h = (λ e. no (cc), refl, h)
 only-touch CounterClockWise CounterClockWise s t u v w n h = absurd h
 only-touch CounterClockWise ClockWise s t u v w n h = absurd h
-only-touch ClockWise CoLinear s t u v w n h = (λ e. let z : _≡_ {A = ℕ} 0 1 = cc in omega arith, refl, h)
+only-touch ClockWise CoLinear s t u v w n h = (λ e. no (cc), refl, h)
 only-touch ClockWise CounterClockWise s t u v w n h = absurd h
 only-touch ClockWise ClockWise s t u v w n h = absurd h
 
 straight : (z : ℤ) → turnOf z ≡ CoLinear → z ≡ pos 0
 unfolding turnOf
 straight (pos zero) e = refl
-straight (pos (suc n)) e = absurd (let z : _≡_ {A = ℕ} 0 1 = cc in omega arith)
-straight (negsuc n) e = absurd (let z : _≡_ {A = ℕ} 0 1 = cc in omega arith)
+straight (pos (suc n)) e = no (cc)
+straight (negsuc n) e = no (cc)
 
 -- ---- a piece of no length has one point
 second : (i j : Bool) → Crosses (cond (i && j) Crossing Nothing) → j ≡ true
 second true true h = refl
 second true false h = absurd h
 second false j h = absurd h
-
-both : (i j : Bool) → i && j ≡ true → (i ≡ true) × (j ≡ true)
-both true true e = (refl, refl)
-both true false e = absurd (false≢true e)
-both false j e = absurd (false≢true e)
 
 joined : (o : Order) (e f : EndPoint) → pointOf e ≡ pointOf f → (pointOf (joinBy o e f .min) ≡ pointOf e) × (pointOf (joinBy o e f .max) ≡ pointOf e)
 unfolding joinBy
@@ -94,7 +89,7 @@ unfolding innerBetween within joinOf pointOf
 one-point c e f h t =
     let s = joinBy (endOrder e f) e f in
     let j = joined (endOrder e f) e f h in
-    let u = both (admits (pointOrder (pointOf (s .min)) (pointOf c)) (s .min .included)) (admits (pointOrder (pointOf c) (pointOf (s .max))) (s .max .included)) t in
+    let u = both {x = admits (pointOrder (pointOf (s .min)) (pointOf c)) (s .min .included)} t in
     let there = no-later (pointOf e) (pointOf c) (s .min .included) (rw (j .0) at (u .0)) in
     let back = no-later (pointOf c) (pointOf e) (s .max .included) (rw (j .1) at (u .1)) in
     let x = ≤-antisym (there .x) (back .x) in
