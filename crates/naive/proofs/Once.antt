@@ -1,8 +1,6 @@
 -- The contract of `all_pairs` allows one answer and one content of the lent bytes.
 -- Assumes nothing.
 use mathlib.Core.Path.{sym, _∙_}
-use mathlib.Core.List.{List}
-use Prim.Native.Nat.{ℕ}
 use denote.Ref.{now}
 use Rattle.charts.specs.Outcome.{OneOutcome}
 use Rattle.naive.proofs.all_pairs.Reads as all-pairs

@@ -1,6 +1,6 @@
 -- The pieces of a list in an array: one more stored, and the array's test is the list's.
 -- Assumes nothing.
-use mathlib.Core.Path.{_≡_, refl, sym, ap, _∙_}
+use mathlib.Core.Path.{_≡_, refl, sym, ap, _∙_, subst}
 use mathlib.Core.List.{List, [], _∷_}
 use mathlib.Core.Logic.{⊎-elim}
 use Prim.Native.Nat.{ℕ, zero, suc, _+_, _<_}
@@ -11,9 +11,14 @@ use lib.IntN.{ℤ}
 use lib.ListN.{length, getD, take, set, length-append, List·getD-append}
 use lib.Seq.{take-suc-set, getD-take, getD-at}
 use Rattle.line_segment.specs.declared.LineSegment.{LineSegment}
+use Rattle.line_segment.specs.Piece.{HasLength}
+use Rattle.charts.specs.declared.Verdict.the-variants.{Accepted}
+use Rattle.charts.specs.Chart.{verdictOf}
 use Rattle.charts.specs.Piece.{pieceAt}
+use Rattle.charts.proofs.Accepted.{pieces-have-length}
 use Rattle.naive.specs.AllPairs.{meets, pairsOf}
 use Rattle.naive.specs.Decoded.{piecesOf, blank, meetsIn}
+use Rattle.naive.specs.Sides.{Long}
 use Rattle.naive.specs.Pairs.{rows}
 use Rattle.naive.proofs.Rows.{rows-same}
 
@@ -49,3 +54,7 @@ module _ (list : List ℤ) where
     pub same-pairs : rows (meetsIn all) n ≡ pairsOf list n
     unfolding pairsOf meets meetsIn
     same-pairs = rows-same (meetsIn all) (meets list) n (λ a b h l. rw (at a h, at b (omega arith)))
+
+    -- an accepted chart's pieces have some length
+    pub stored-long : verdictOf list ≡ Accepted n → Long all n
+    stored-long e = record { long = λ i h. subst HasLength (sym (at i h)) (pieces-have-length list n i e h) }

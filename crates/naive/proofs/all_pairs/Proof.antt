@@ -9,7 +9,7 @@ use Rattle.charts.specs.declared.Verdict.the-variants.{Accepted}
 use Rattle.charts.proofs.Accepted.{accepted-most}
 use Rattle.charts.proofs.Listing.{listing-goes}
 use Rattle.naive.specs.Pairs.{Pair, bytes, over}
-use Rattle.naive.proofs.Stored.{same-pairs}
+use Rattle.naive.proofs.Stored.{same-pairs, stored-long}
 use Rattle.naive.proofs.Outcomes.{refused-outcome, done-outcome}
 use Rattle.naive.proofs.all_pairs.Statement.{statement}
 use Rattle.naive.proofs.all_pairs.Tie as tie
@@ -40,7 +40,11 @@ pieces-of-requires : tie.Need-pieces-of-requires
 pieces-of-requires c κs = few c
 
 list-pairs-requires : tie.Need-list-pairs-requires
-list-pairs-requires c κs = let a = c .before .before in (few a, listing-goes (start a .args .list .now) (length (start a .args .pairs .now)) _ (goes a) .1)
+list-pairs-requires c κs =
+    let a = c .before .before in
+    let list = start a .args .list .now in
+    let g = listing-goes list (length (start a .args .pairs .now)) _ (goes a) in
+    (few a, g .1, stored-long list (c .before .pieces-of .result .all) _ (c .before .pieces-of .ensures) (g .0))
 
 done-requires : tie.Need-done-requires
 done-requires c κs = search needs

@@ -48,7 +48,10 @@ array-copy-out-meets : tie.Need-array-copy-out-meets Inv-loop2 μ-loop2 Inv-loop
 array-copy-out-meets c = search needs
 
 meets-requires : tie.Need-meets-requires Inv-loop2 μ-loop2 Inv-loop μ-loop
-meets-requires c κs = search needs
+meets-requires c κs =
+    let l1 = c .before .before .before .before .before in
+    let long = l1 .before .before .before .pre .2 .long in
+    (long (l1 .loop .a) (omega arith), long (c .before .before .loop2 .b) (omega arith))
 
 -- what the call says of the two places
 said : (c : tie.After-meets Inv-loop2 μ-loop2 Inv-loop μ-loop) → let l2 = c .before .before .before in let l1 = l2 .before .before .before in meetsIn (l1 .before .before .before .args .pieces .all) (l1 .loop .a) (l2 .loop2 .b) ≡ c .meets .result
