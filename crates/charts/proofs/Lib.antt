@@ -15,3 +15,4 @@ pub mod Listing
 pub mod Ten
 pub mod Upright
 pub mod Once
+pub mod Examples

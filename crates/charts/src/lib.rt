@@ -1,3 +1,5 @@
+// A chart given as a list of numbers, five a piece: kind, x1, y1, x2, y2. Here lists are judged and their pieces made;
+// every public function takes every list.
 ghost use mathlib.Core.Path.{_≡_};
 ghost use Prim.Native.Nat.{_<_, _≤_};
 ghost use Rattle.charts.specs.Fault.{outside, offRange, eqZ, sameEnds, faultOf};
@@ -14,6 +16,7 @@ pub const MOST: usize = 64;
 // Coordinates run from -RANGE to RANGE.
 pub const RANGE: i32 = 32767;
 
+// What is said of a list before any work on it.
 pub enum Verdict {
     // a chart of so many pieces
     Accepted(usize),
@@ -81,6 +84,7 @@ pub fn fault_of(kind: i32, x1: i32, y1: i32, x2: i32, y2: i32) -> u8
     0
 }
 
+// Number k of piece i, 0 past the end.
 fn number_at(list: &[i32], i: usize, k: usize) -> i32
     requires { ⌜ k < 5 ⌝ }
     ensures { λ r. ⌜ r ≡ numberAt (now (list .entry)) i k ⌝ }
@@ -107,6 +111,7 @@ fn fault_at(list: &[i32], i: usize) -> u8
     )
 }
 
+// 9, then 3, then the first fault of a piece; the place is that piece's number.
 pub fn verdict_of(list: &[i32]) -> Verdict
     ensures { λ r. ⌜ r ≡ verdictOf (now (list .entry)) ⌝ }
 {
@@ -146,6 +151,7 @@ pub fn refused(number: u8, place: usize) -> Answer
     }
 }
 
+// Two bytes for each pair of n pieces.
 fn room_of(n: usize) -> usize
     requires { ⌜ n ≤ most ⌝ }
     ensures { λ r. ⌜ r ≡ room n ⌝ }
@@ -205,6 +211,7 @@ pub fn piece_at(list: &[i32], i: usize) -> LineSegment
     line_segment::piece(kind, x1, y1, x2, y2)
 }
 
+// Whether both ends have one x.
 pub fn is_upright(s: LineSegment) -> bool
     ensures { λ r. ⌜ r ≡ isUpright s ⌝ }
 {

@@ -24,11 +24,15 @@ branch false q false s e f g = absurd (subst T (sym e) tt)
 
 one-sided : (d e : ℤ) → oneSide d e ≡ true → OneSided d e
 unfolding oneSide
-one-sided d e h = branch (ltZ (pos 0) d) (ltZ (pos 0) e) (ltZ d (pos 0)) (ltZ e (pos 0)) h (λ p q. above (ltZ-yes (holds p)) (ltZ-yes (holds q))) (λ p q. below (ltZ-yes (holds p)) (ltZ-yes (holds q)))
+one-sided d e h =
+    branch (ltZ (pos 0) d) (ltZ (pos 0) e) (ltZ d (pos 0)) (ltZ e (pos 0)) h
+    (λ p q. above (ltZ-yes (holds p)) (ltZ-yes (holds q))) (λ p q. below (ltZ-yes (holds p)) (ltZ-yes (holds q)))
 
 opposite : (d e : ℤ) → twoSides d e ≡ true → Opposite d e
 unfolding twoSides
-opposite d e h = branch (ltZ (pos 0) d) (ltZ e (pos 0)) (ltZ d (pos 0)) (ltZ (pos 0) e) h (λ p q. down (ltZ-yes (holds p)) (ltZ-yes (holds q))) (λ p q. up (ltZ-yes (holds p)) (ltZ-yes (holds q)))
+opposite d e h =
+    branch (ltZ (pos 0) d) (ltZ e (pos 0)) (ltZ d (pos 0)) (ltZ (pos 0) e) h
+    (λ p q. down (ltZ-yes (holds p)) (ltZ-yes (holds q))) (λ p q. up (ltZ-yes (holds p)) (ltZ-yes (holds q)))
 
 module _ (a b : LineSegment) (la : HasLength a) (lb : HasLength b) where
   no-point : besideOf a b ≡ true → ¬ Meet a b

@@ -22,8 +22,10 @@ lists-once list n = once (pairsOf list n) (lists-in-order list n)
 
 pub lists-exactly : ListsExactly
 unfolding pairsOf meets
-lists-exactly list n e a b =
-    (λ m. let r = rows-say (meets list) n (a, b) m in (r .greater, r .below, test (r .greater) (r .below) .0 (r .met)), λ h. rows-have (meets list) n a b (h .1) (h .0) (test (h .0) (h .1) .1 (h .2)))
+lists-exactly list n e a b = (
+  λ m. let r = rows-say (meets list) n (a, b) m in (r .greater, r .below, test (r .greater) (r .below) .0 (r .met)),
+  λ h. rows-have (meets list) n a b (h .1) (h .0) (test (h .0) (h .1) .1 (h .2)),
+)
   where
     test : b < a → a < n → (meets list a b ≡ true) ↔ Meet (pieceAt list a) (pieceAt list b)
     test h l = says-yes-exactly (pieceAt list a) (pieceAt list b) (pieces-have-length list n a e l) (pieces-have-length list n b e (omega arith))

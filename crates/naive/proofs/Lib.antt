@@ -13,3 +13,4 @@ pub mod Apart
 pub mod Outcomes
 pub mod Exactly
 pub mod Once
+pub mod Examples

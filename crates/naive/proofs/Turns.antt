@@ -49,7 +49,9 @@ module _ (meets : ℕ → ℕ → Bool) where
       -- ---- two bytes more have room
       pub has-room : (n : ℕ) → b < a → a < n → room n ≤ length o → (2 * k + 2 ≤ length q) × (length q ≡ length o)
       has-room n h l lent =
-          omega (arith, ap length written ∙ length-sets p (2 * j) (bytes (row meets a b)), ap length writtenBefore ∙ length-sets o 0 (bytes (rows meets a)), row-length meets a b, rows-length meets a, room-below a n l)
+          let q-length : length q ≡ length p = ap length written ∙ length-sets p (2 * j) (bytes (row meets a b)) in
+          let p-length : length p ≡ length o = ap length writtenBefore ∙ length-sets o 0 (bytes (rows meets a)) in
+          omega (arith, row-length meets a b, rows-length meets a, room-below a n l)
 
       -- ---- the row is full
       pub row-full : b ≡ a → (k ≡ length (rows meets (a + 1))) × (q ≡ sets o 0 (bytes (rows meets (a + 1))))

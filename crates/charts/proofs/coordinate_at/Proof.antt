@@ -1,3 +1,4 @@
+-- `charts::coordinate_at` meets its contract: a number that passes the test fits an i16.
 use borrow.Author.Needs.{needs}
 use mathlib.Core.Path.{_≡_, sym, ap, _∙_}
 use mathlib.Core.Bool.{false}

@@ -1,3 +1,4 @@
+-- `charts::fault_at` meets its contract: the five numbers are those of the piece.
 use borrow.Author.Needs.{needs}
 use mir.Syntax.{w32}
 use Rattle.charts.specs.Chart.{faultAt}
@@ -31,7 +32,14 @@ returns c =
     let n3 = c .before .before .before .number-at3 in
     let n4 = c .before .before .number-at4 in
     let n5 = c .before .number-at5 in
-    rw (c .fault-of .ensures, told w32 (n1 .result) (n1 .ok) (n1 .ensures), told w32 (n2 .result) (n2 .ok) (n2 .ensures), told w32 (n3 .result) (n3 .ok) (n3 .ensures), told w32 (n4 .result) (n4 .ok) (n4 .ensures), told w32 (n5 .result) (n5 .ok) (n5 .ensures))
+    rw (
+      c .fault-of .ensures,
+      told w32 (n1 .result) (n1 .ok) (n1 .ensures),
+      told w32 (n2 .result) (n2 .ok) (n2 .ensures),
+      told w32 (n3 .result) (n3 .ok) (n3 .ensures),
+      told w32 (n4 .result) (n4 .ok) (n4 .ensures),
+      told w32 (n5 .result) (n5 .ok) (n5 .ensures),
+    )
 
 pub fault-at-spec : {M : Type 1} → statement M
 fault-at-spec =

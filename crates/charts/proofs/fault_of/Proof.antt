@@ -1,3 +1,4 @@
+-- `charts::fault_of` meets its contract: each answer follows from the tests that failed before it.
 use borrow.Author.Needs.{needs}
 use mathlib.Core.Path.{_≡_, _∙_, ap, ap₂}
 use mathlib.Core.Bool.{false}

@@ -1,3 +1,4 @@
+-- `charts::has_same_ends` meets its contract: x is asked, then y.
 use borrow.Author.Needs.{needs}
 use mathlib.Core.Path.{_≡_, _∙_, ap₂}
 use mir.Facts.{toZ-ofZ}

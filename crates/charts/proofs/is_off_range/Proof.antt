@@ -1,3 +1,4 @@
+-- `charts::is_off_range` meets its contract: x is asked, then y.
 use borrow.Author.Needs.{needs}
 use mathlib.Core.Path.{_≡_, _∙_, ap}
 use lib.IntN.{negℤ}

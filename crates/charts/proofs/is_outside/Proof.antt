@@ -1,3 +1,4 @@
+-- `charts::is_outside` meets its contract: the two orders are asked one after the other.
 use lib.Signed.{ltZ}
 use Rattle.charts.specs.Fault.{outside}
 use Rattle.charts.proofs.Numbers.{shown, or-yes, or-no, lt-kept}

@@ -1,3 +1,4 @@
+-- `charts::is_same` meets its contract: bits that are the same are numbers that are.
 use mir.Syntax.{w32}
 use Rattle.charts.proofs.Numbers.{eq-bits}
 use Rattle.charts.proofs.is_same.Statement.{statement}

@@ -1,3 +1,4 @@
+-- `charts::is_upright` meets its contract: bits that are the same are numbers that are.
 use borrow.Author.Needs.{needs}
 use mir.Syntax.{w16}
 use Rattle.charts.specs.Piece.{isUpright}

@@ -1,3 +1,4 @@
+-- `charts::kind_at` meets its contract: a number that passes the test is a kind from 0 to 3.
 use borrow.Author.Needs.{needs}
 use mathlib.Core.Path.{_≡_, sym, ap, _∙_}
 use mathlib.Core.Bool.{false}

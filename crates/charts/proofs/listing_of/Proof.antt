@@ -1,3 +1,4 @@
+-- `charts::listing_of` meets its contract: by the verdict on the list, then the room.
 use borrow.Author.Needs.{needs}
 use mathlib.Core.Path.{_≡_, sym, _∙_}
 use Rattle.charts.specs.Chart.{verdictOf}
@@ -24,13 +25,19 @@ room-of-requires : tie.Need-room-of-requires
 room-of-requires c κs = accepted-most _ _ (accepted c)
 
 returns : tie.Need-returns
-returns c = let s = c .before .before .before .before in sym (listing-refused (s .args .list .now) (s .args .lent) _ _ (sym (c .before .before .before .verdict-of .ensures) ∙ c .before .number .given .1))
+returns c =
+    let s = c .before .before .before .before .args in
+    sym (listing-refused (s .list .now) (s .lent) _ _ (sym (c .before .before .before .verdict-of .ensures) ∙ c .before .number .given .1))
 
 returns-2 : tie.Need-returns-2
-returns-2 c = let s = c .before .before .before .before .before .before in sym (listing-eight (s .args .list .now) (s .args .lent) _ (accepted (c .before .before)) (rw (c .before .room-of .ensures) at (c .if1 .taken)))
+returns-2 c =
+    let s = c .before .before .before .before .before .before .args in
+    sym (listing-eight (s .list .now) (s .lent) _ (accepted (c .before .before)) (rw (c .before .room-of .ensures) at (c .if1 .taken)))
 
 returns-3 : tie.Need-returns-3
-returns-3 c = let s = c .before .before .before .before .before .before in sym (listing-accepted (s .args .list .now) (s .args .lent) _ (accepted (c .before .before)) (rw (c .before .room-of .ensures) at (c .if1 .left)))
+returns-3 c =
+    let s = c .before .before .before .before .before .before .args in
+    sym (listing-accepted (s .list .now) (s .lent) _ (accepted (c .before .before)) (rw (c .before .room-of .ensures) at (c .if1 .left)))
 
 pub listing-of-spec : {M : Type 1} → statement M
 listing-of-spec =

@@ -1,3 +1,4 @@
+-- `charts::meeting_of` meets its contract: by the verdict on the two pieces.
 use borrow.Author.Needs.{needs}
 use mathlib.Core.Path.{sym, _∙_}
 use Rattle.charts.specs.Pair.{meetingOf}

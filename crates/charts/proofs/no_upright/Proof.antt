@@ -1,3 +1,4 @@
+-- `charts::no_upright` meets its contract: below i no piece was upright.
 use borrow.Author.Needs.{needs}
 use mathlib.Core.Path.{_≡_, sym, ap, _∙_}
 use mathlib.Core.Bool.{true}

@@ -1,3 +1,4 @@
+-- `charts::number_at` meets its contract: past the end the definition reads 0 too.
 use borrow.Author.Needs.{needs}
 use mathlib.Core.Path.{sym}
 use native.Mathlib.Omega.{arith}

@@ -1,3 +1,4 @@
+-- `charts::pair_verdict_of` meets its contract: ten numbers, or 9.
 use borrow.Author.Needs.{needs}
 use mathlib.Core.Path.{sym, _∙_}
 use Rattle.charts.proofs.Ten.{pair-nine, pair-list}

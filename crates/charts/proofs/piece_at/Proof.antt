@@ -1,3 +1,4 @@
+-- `charts::piece_at` meets its contract: the piece of five numbers.
 use borrow.Author.Needs.{needs}
 use mir.Syntax.{w16}
 use Rattle.charts.specs.Piece.{pieceAt}
@@ -31,7 +32,14 @@ returns c =
     let n2 = c .before .before .before .coordinate-at2 in
     let n3 = c .before .before .coordinate-at3 in
     let n4 = c .before .coordinate-at4 in
-    rw (c .piece .ensures, k .ensures, told w16 (n1 .result) (n1 .ok) (n1 .ensures), told w16 (n2 .result) (n2 .ok) (n2 .ensures), told w16 (n3 .result) (n3 .ok) (n3 .ensures), told w16 (n4 .result) (n4 .ok) (n4 .ensures))
+    rw (
+      c .piece .ensures,
+      k .ensures,
+      told w16 (n1 .result) (n1 .ok) (n1 .ensures),
+      told w16 (n2 .result) (n2 .ok) (n2 .ensures),
+      told w16 (n3 .result) (n3 .ok) (n3 .ensures),
+      told w16 (n4 .result) (n4 .ok) (n4 .ensures),
+    )
 
 pub piece-at-spec : {M : Type 1} → statement M
 piece-at-spec =

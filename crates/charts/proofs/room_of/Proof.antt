@@ -1,3 +1,4 @@
+-- `charts::room_of` meets its contract: n(n-1) fits for every chart.
 use borrow.Author.Needs.{needs}
 use mathlib.Core.Path.{refl, sym, _∙_, ap}
 use native.Mathlib.Omega.{arith}

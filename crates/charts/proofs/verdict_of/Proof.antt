@@ -1,3 +1,4 @@
+-- `charts::verdict_of` meets its contract: below i every piece was accepted, and the first fault is the verdict.
 use borrow.Author.Needs.{needs}
 use mathlib.Core.Path.{_≡_, sym, ap, _∙_}
 use Prim.Native.Nat.{ℕ, suc, _≤_, _-_, _/_}

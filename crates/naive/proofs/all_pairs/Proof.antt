@@ -1,3 +1,4 @@
+-- `naive::all_pairs` meets its contract: by the verdict on the list and its room.
 use borrow.Author.Needs.{needs}
 use mathlib.Core.Path.{_≡_, sym, ap, _∙_}
 use mathlib.Core.List.{List}

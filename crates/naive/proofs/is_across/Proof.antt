@@ -1,3 +1,4 @@
+-- `naive::is_across` meets its contract: the ends are on two sides.
 use borrow.Author.Needs.{needs}
 use mathlib.Core.Path.{ap₂, _∙_}
 use mir.Syntax.{w64}

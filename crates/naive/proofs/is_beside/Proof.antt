@@ -1,3 +1,4 @@
+-- `naive::is_beside` meets its contract: both ends are on one side.
 use borrow.Author.Needs.{needs}
 use mathlib.Core.Path.{ap₂, _∙_}
 use mir.Syntax.{w64}

@@ -1,3 +1,4 @@
+-- `naive::list_pairs` meets its contract: the rows below a are written, and of row a the pairs below b.
 use borrow.Author.Needs.{needs}
 use mathlib.Core.Path.{_≡_, sym, ap, _∙_}
 use mathlib.Core.Logic.{⊎-elim}
@@ -54,18 +55,25 @@ meets-requires c κs =
     (long (l1 .loop .a) (omega arith), long (c .before .before .loop2 .b) (omega arith))
 
 -- what the call says of the two places
-said : (c : tie.After-meets Inv-loop2 μ-loop2 Inv-loop μ-loop) → let l2 = c .before .before .before in let l1 = l2 .before .before .before in meetsIn (l1 .before .before .before .args .pieces .all) (l1 .loop .a) (l2 .loop2 .b) ≡ c .meets .result
+said : (c : tie.After-meets Inv-loop2 μ-loop2 Inv-loop μ-loop)
+    → let l2 = c .before .before .before in let l1 = l2 .before .before .before in
+    meetsIn (l1 .before .before .before .args .pieces .all) (l1 .loop .a) (l2 .loop2 .b) ≡ c .meets .result
 unfolding meetsIn
 said c = sym (c .meets .ensures)
 
 abbrev start : tie.Then1 Inv-loop2 μ-loop2 Inv-loop μ-loop → tie.Start Inv-loop2 μ-loop2 Inv-loop μ-loop
 start c = c .before .before .before .before .before .before .before .before .before .before
 
-room-here : (c : tie.Then1 Inv-loop2 μ-loop2 Inv-loop μ-loop) → let l2 = c .before .before .before .before .loop2 in (2 * l2 .k + 2 ≤ length (l2 .pairs)) × (length (l2 .pairs) ≡ length (start c .args .pairs .now))
+room-here : (c : tie.Then1 Inv-loop2 μ-loop2 Inv-loop μ-loop)
+    → let l2 = c .before .before .before .before .loop2 in
+    (2 * l2 .k + 2 ≤ length (l2 .pairs)) × (length (l2 .pairs) ≡ length (start c .args .pairs .now))
 room-here c =
     let l2 = c .before .before .before .before in
     let l1 = l2 .before .before .before in
-    has-room (meetsIn (start c .args .pieces .all)) (l1 .loop .pairs) (l2 .loop2 .pairs) (l1 .loop .a) (l2 .loop2 .b) (l1 .loop .k) (l2 .loop2 .k) (l2 .loop2 .inv .1) (l2 .loop2 .inv .2) (start c .args .pairs .now) (l1 .loop .inv .1) (l1 .loop .inv .2) (start c .args .n) (omega arith) (omega arith) (start c .pre .1)
+    has-room (meetsIn (start c .args .pieces .all)) (l1 .loop .pairs) (l2 .loop2 .pairs) (l1 .loop .a) (l2 .loop2 .b) (l1 .loop .k) (l2 .loop2 .k)
+    (l2 .loop2 .inv .1) (l2 .loop2 .inv .2)
+    (start c .args .pairs .now) (l1 .loop .inv .1) (l1 .loop .inv .2)
+    (start c .args .n) (omega arith) (omega arith) (start c .pre .1)
 
 cast-pairs : tie.Need-cast-pairs Inv-loop2 μ-loop2 Inv-loop μ-loop
 cast-pairs c = search needs
@@ -123,7 +131,10 @@ loop-again c =
     let l2 = c .before in
     let l1 = l2 .before .before .before in
     let s = l1 .before .before .before .args in
-    let t = row-full (meetsIn (s .pieces .all)) (l1 .loop .pairs) (l2 .loop2 .pairs) (l1 .loop .a) (l2 .loop2 .b) (l1 .loop .k) (l2 .loop2 .k) (l2 .loop2 .inv .1) (l2 .loop2 .inv .2) (s .pairs .now) (l1 .loop .inv .1) (l1 .loop .inv .2) (omega arith) in
+    let t =
+    row-full (meetsIn (s .pieces .all)) (l1 .loop .pairs) (l2 .loop2 .pairs) (l1 .loop .a) (l2 .loop2 .b) (l1 .loop .k) (l2 .loop2 .k)
+    (l2 .loop2 .inv .1) (l2 .loop2 .inv .2)
+    (s .pairs .now) (l1 .loop .inv .1) (l1 .loop .inv .2) (omega arith) in
     (omega arith, t .0, t .1)
 
 same-length : tie.Need-same-length Inv-loop2 μ-loop2 Inv-loop μ-loop

@@ -1,3 +1,4 @@
+-- `naive::meets` meets its contract: where sides settle it, by the meaning of the test, and else by its answer.
 use borrow.Author.Needs.{needs}
 use mathlib.Core.Path.{sym, ap, _∙_}
 use Rattle.line_segment.specs.Demand.{saysYes}
@@ -20,7 +21,9 @@ is-across-requires-2 c κs = search needs
 returns-2 : tie.Need-returns-2
 returns-2 c =
     let s = c .before .before .before .before .before .before in
-    sym (across-meet (s .args .a) (s .args .b) (s .pre .0) (s .pre .1) (sym (c .before .before .before .is-across .ensures) ∙ c .before .before .if2 .taken) (sym (c .before .is-across2 .ensures) ∙ c .if3 .taken))
+    sym (across-meet (s .args .a) (s .args .b) (s .pre .0) (s .pre .1)
+    (sym (c .before .before .before .is-across .ensures) ∙ c .before .before .if2 .taken)
+    (sym (c .before .is-across2 .ensures) ∙ c .if3 .taken))
 
 intersect-requires : tie.Need-intersect-requires
 intersect-requires c κs = search needs

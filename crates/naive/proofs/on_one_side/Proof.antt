@@ -1,3 +1,4 @@
+-- `naive::on_one_side` meets its contract: both signs are asked.
 use mir.Facts.{toZ-ofZ}
 use Rattle.naive.specs.Sides.{oneSide}
 use Rattle.naive.proofs.on_one_side.Statement.{statement}

@@ -1,3 +1,4 @@
+-- `naive::on_two_sides` meets its contract: both signs are asked.
 use mir.Facts.{toZ-ofZ}
 use Rattle.naive.specs.Sides.{twoSides}
 use Rattle.naive.proofs.on_two_sides.Statement.{statement}

@@ -1,3 +1,4 @@
+-- `naive::pieces_of` meets its contract: below i the array holds the pieces of the list.
 use borrow.Author.Needs.{needs}
 use mathlib.Core.Path.{_≡_, refl, sym, _∙_}
 use Prim.Native.Nat.{_≤_, _-_}

@@ -1,3 +1,4 @@
+-- `naive::side_of` meets its contract: the determinant is the side, over one.
 use borrow.Author.Needs.{needs}
 use mathlib.Core.Path.{_≡_, _∙_}
 use mir.Syntax.{w64}
@@ -21,7 +22,9 @@ det-side : (s : LineSegment) (e : EndPoint) → det (s .min .x) (s .min .y) (s .
 unfolding det side run rise pointOf
 det-side s e = simp *ℤ-idr
 
-read : (c : tie.After-determinant) → let a = c .before .before .before .before .before .before .before .before .before .args in c .determinant .result ≡ det (a .s .min .x) (a .s .min .y) (a .s .max .x) (a .s .max .y) (a .e .x) (a .e .y)
+read : (c : tie.After-determinant)
+    → let a = c .before .before .before .before .before .before .before .before .before .args in
+    c .determinant .result ≡ det (a .s .min .x) (a .s .min .y) (a .s .max .x) (a .s .max .y) (a .e .x) (a .e .y)
 unfolding det
 read c = c .determinant .ensures ∙ m-eq (search ranged depth 60 fits 20000) tt
 
