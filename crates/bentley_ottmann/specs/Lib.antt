@@ -1,0 +1,2 @@
+-- What the sweep's inner contracts cite beside `sweep_arrays`.
+pub mod Views
