@@ -21,14 +21,8 @@ use Rattle.sweep_arrays.specs.Ledger.{Ledger, report, examine}
 use Rattle.sweep_arrays.specs.Event.{Sheet, flag, halves, pieces, are-min, free-all, starting, finishing, turning, dropped, stay, enter, ranged, examined, step}
 use Rattle.sweep_arrays.specs.Event.{here as gathered}
 use Rattle.event_queue.specs.Passing.{Passing}
-use Rattle.status.specs.Joined.{Joined}
 use Rattle.status.specs.Roles.{staysBy, entersBy, containsIn}
 use Rattle.bentley_ottmann.specs.Views.{ledger, sheet, rangedOf}
-
-pub join-all-append : (room : ℕ) (xs ys l : List ℕ) → join-all room (xs ++ ys) l ≡ join-all room ys (join-all room xs l)
-unfolding join-all
-join-all-append room [] ys l = refl
-join-all-append room (x ∷ xs) ys l = join-all-append room xs ys _
 
 front-in : (f : ℕ → Bool) (l : List ℕ) {x : ℕ} → In x (front f l) → In x l
 unfolding front
@@ -43,14 +37,6 @@ front-in f (y ∷ l) {x} m = go (f y) (λ k. front-in f l k) m
 -- what was passed was left before
 pub passed-in : {f : ℕ → Bool} {l : List ℕ} {from to x : ℕ} → Passing f l from to → In x (slice from to l) → In x (drop from l)
 passed-in {f} {l} {from} {to} {x} P m = front-in f (drop from l) (subst (λ (z : List ℕ). In x z) (P .passed) m)
-
-pub joined-join : {xs ys a b d : List ℕ} {h r t : ℕ} → Joined xs a h b r → Joined ys b r d t → Joined (xs ++ ys) a h d t
-joined-join {xs} {ys} {a} {b} {d} {h} {r} {t} J K =
-    record {
-      within = omega (arith, J .within, K .within);
-      long = K .long ∙ J .long;
-      list = K .list ∙ ap₂ (λ (k : ℕ) (l : List ℕ). join-all k ys l) (J .long) (J .list) ∙ sym (join-all-append (length a) xs ys (drop h a));
-    }
 
 module _ (n : ℕ) (table : List ℤ) (p : Point) (ends active marks waiting bytes : List ℕ) (passed live head end : ℕ) (last : Option Point) (steps : ℕ) where
   abbrev entry : Sheet (chartIn n table)

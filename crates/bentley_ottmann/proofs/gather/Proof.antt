@@ -1,5 +1,5 @@
 -- `bentley_ottmann::gather` meets its contract.
-use Rattle.bentley_ottmann.proofs.Assembling.{joined-join}
+use Rattle.status.proofs.Joins.{joined-then}
 use borrow.Author.Needs.{needs}
 use Rattle.bentley_ottmann.proofs.gather.Statement.{statement}
 use Rattle.bentley_ottmann.proofs.gather.Tie as tie
@@ -22,7 +22,7 @@ same-length : tie.Need-same-length
 same-length c = search needs
 
 returns : tie.Need-returns
-returns c = joined-join (c .before .before .before .before .before .before .before .before .before .before .join-ends .ensures) (joined-join (c .before .before .before .before .before .before .join-crossings .ensures) (c .before .before .join-active .ensures))
+returns c = joined-then (c .before .before .before .before .before .before .before .before .before .before .join-ends .ensures) (joined-then (c .before .before .before .before .before .before .join-crossings .ensures) (c .before .before .join-active .ensures))
 
 pub gather-spec : {M : Type 1} → statement M
 gather-spec =

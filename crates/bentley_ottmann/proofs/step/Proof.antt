@@ -1,15 +1,7 @@
 -- `bentley_ottmann::step` meets its contract: the parts come together to the step on arrays.
-use mathlib.Core.Path.{_≡_, refl, sym, ap, _∙_, subst}
-use mathlib.Core.List.{List}
-use mathlib.Core.List.{List·Memᴰ as In}
-use Prim.Native.Nat.{ℕ}
+use mathlib.Core.Path.{_∙_}
 use native.Mathlib.Omega.{arith}
-use lib.ListN.{length, drop, take}
-use Rattle.charts.specs.Chart.{most}
-use Rattle.segments.specs.Table.{chartIn}
-use Rattle.sweep.specs.Lists.{keep}
-use Rattle.status.specs.Roles.{staysBy, entersBy}
-use Rattle.bentley_ottmann.specs.Views.{ledger, rangedOf}
+use lib.ListN.{drop}
 use Rattle.bentley_ottmann.proofs.Assembling.{passed-in, assembled}
 use borrow.Author.Needs.{needs}
 use Rattle.bentley_ottmann.proofs.step.Statement.{statement}
