@@ -54,4 +54,8 @@ mirtalughe_met mirtalughe_meeting(const int32_t *list, size_t length);
 /* Where the two pieces of ten numbers meet. */
 mirtalughe_placed mirtalughe_place(const int32_t *list, size_t length);
 
+/* Every pair of the n pieces of a list that meet, two bytes a pair: for a from 0, for b below a. `lent` is
+   to be at least n(n - 1). Bytes past the last pair keep their values. */
+mirtalughe_answer mirtalughe_all_pairs(const int32_t *list, size_t length, uint8_t *pairs, size_t lent);
+
 #endif

@@ -1,10 +1,12 @@
 // The library's calls under plain names, for C and Rust to link (include/mirtalughe.h).
 ghost use mathlib.Core.Path.{_≡_};
+ghost use lib.ListN.{length};
 ghost use Rattle.orientation.specs.Turn.{det, turnOf};
 ghost use Rattle.fractions.specs.Point.{pointOrder};
 ghost use Rattle.charts.specs.Pair.{meetingOf};
 ghost use Rattle.place.specs.Pair.{placeAnswerOf};
 ghost use Rattle.chart_file.specs.Reading.{Reads};
+ghost use Rattle.naive.specs.AllPairs.{allPairsOf, lentAfter};
 ghost use Rattle.chart_c.specs.Numbers.{turnNumber, orderNumber, pointOf};
 ghost use Rattle.chart_c.specs.Meetings.{noEnd, endFields, metAs, fieldsOf};
 ghost use Rattle.chart_c.specs.Places.{placedAs, placedOf};
@@ -196,4 +198,12 @@ pub extern "C" fn mirtalughe_place(list: &[i32]) -> Placed
     let answer = place::pair_place(list);
     let meeting = answer.meeting;
     values(answer.number, answer.place, meeting)
+}
+
+// Every pair of a chart's pieces that meet, two bytes a pair.
+#[no_mangle]
+pub extern "C" fn mirtalughe_all_pairs(list: &[i32], pairs: &mut [u8]) -> Answer
+    ensures { λ r. ⌜ (r ≡ allPairsOf (now (list .entry)) (length (now (pairs .entry)))) × (now (pairs .exit) ≡ lentAfter (now (list .entry)) (now (pairs .entry))) ⌝ }
+{
+    naive::all_pairs(list, pairs)
 }

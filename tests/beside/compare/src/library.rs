@@ -11,6 +11,7 @@ unsafe extern "C" {
   fn mirtalughe_meeting(list: *const i32, length: usize) -> Met;
   fn mirtalughe_place(list: *const i32, length: usize) -> Placed;
   fn mirtalughe_read(file: *const u8, size: usize, list: *mut i32, lent: usize) -> Answer;
+  fn mirtalughe_all_pairs(list: *const i32, length: usize, pairs: *mut u8, lent: usize) -> Answer;
 }
 
 #[repr(C)]
@@ -96,4 +97,8 @@ pub fn place(list: &[i32]) -> Result<Vec<u64>, Refusal> {
 
 pub fn read(file: &[u8], list: &mut [i32]) -> Answer {
   unsafe { mirtalughe_read(file.as_ptr(), file.len(), list.as_mut_ptr(), list.len()) }
+}
+
+pub fn all_pairs(list: &[i32], pairs: &mut [u8]) -> Answer {
+  unsafe { mirtalughe_all_pairs(list.as_ptr(), list.len(), pairs.as_mut_ptr(), pairs.len()) }
 }

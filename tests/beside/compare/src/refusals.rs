@@ -77,7 +77,7 @@ pub fn verdict(list: &[i32]) -> Result<usize, Refusal> {
 }
 
 /// The chart with one fault put in, and the refusal that it gets.
-fn damaged(chart: &Chart) -> Vec<(Vec<i32>, Refusal)> {
+pub fn damaged(chart: &Chart) -> Vec<(Vec<i32>, Refusal)> {
   let sound = numbers(chart);
   let mut faults = vec![([&sound[..], &[0]].concat(), (9, 0))];
   if let Some(&last) = chart.last() {
