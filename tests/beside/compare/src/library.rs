@@ -7,7 +7,8 @@ use crate::answers::{Answer, End, Meeting, Point, Refusal, Side};
 #[link(name = "chart_c", kind = "static")]
 unsafe extern "C" {
   safe fn mirtalughe_orient(x1: i16, y1: i16, x2: i16, y2: i16, x3: i16, y3: i16) -> i8;
-  safe fn mirtalughe_compare_points(x1: i64, y1: i64, d1: u64, x2: i64, y2: i64, d2: u64) -> i8;
+  pub safe fn mirtalughe_compare_points(x1: i64, y1: i64, d1: u64, x2: i64, y2: i64, d2: u64)
+  -> i8;
   fn mirtalughe_meeting(list: *const i32, length: usize) -> Met;
   fn mirtalughe_place(list: *const i32, length: usize) -> Placed;
   fn mirtalughe_read(file: *const u8, size: usize, list: *mut i32, lent: usize) -> Answer;

@@ -3,8 +3,10 @@
 //!   compare gate               the fixed charts
 //!   compare long SEED COUNT    COUNT random charts of each temper from SEED
 //!   compare record FOLDER      writes the Rust's answers on a fixed sample
+//!   compare bench PLAIN        how long calls take, beside the Rust and the program PLAIN
 
 mod answers;
+mod bench;
 mod case;
 mod charts;
 mod file;
@@ -57,7 +59,8 @@ fn main() -> ExitCode {
       (Ok(seed), Ok(count)) => (long(seed, count), seed, count),
       _ => return usage(),
     },
-    ["record", folder] => return recorded(record::write(folder.as_ref())),
+    ["record", folder] => return written(record::write(folder.as_ref())),
+    ["bench", plain] => return written(bench::print(plain)),
     _ => return usage(),
   };
   panic::set_hook(Box::new(|_| {}));
@@ -88,12 +91,12 @@ fn main() -> ExitCode {
 }
 
 fn usage() -> ExitCode {
-  eprintln!("usage: compare gate | compare long SEED COUNT | compare record FOLDER");
+  eprintln!("usage: compare gate | long SEED COUNT | record FOLDER | bench PLAIN");
   ExitCode::from(2)
 }
 
-fn recorded(written: std::io::Result<()>) -> ExitCode {
-  match written {
+fn written(outcome: std::io::Result<()>) -> ExitCode {
+  match outcome {
     Ok(()) => ExitCode::SUCCESS,
     Err(e) => {
       eprintln!("compare: {e}");

@@ -171,7 +171,8 @@ fn point(p: &Corner<BigRational>) -> Point {
   Point::new(x * dy, y * dx, dx * dy)
 }
 
-fn corner_of(p: &Point) -> Corner<BigRational> {
+/// The Rust's own point.
+pub fn corner_of(p: &Point) -> Corner<BigRational> {
   let part = |v: i128| BigRational::new(v.into(), p.d.into());
   Corner::new([part(p.x), part(p.y)])
 }

@@ -1,0 +1,156 @@
+//! How long the library's calls take beside the Rust's and beside a plain C++ loop, as two tables.
+
+use std::hint::black_box;
+use std::io::{Error, Result, Write};
+use std::process::{Command, Stdio};
+use std::time::Instant;
+
+use crate::answers::{Chart, LIMIT, MOST_PIECES, Point, is_upright};
+use crate::charts::{self, Random};
+use crate::original::{self, Original};
+use crate::refusals::numbers;
+use crate::{library, model};
+
+const SEED: u64 = 6;
+/// A time is that of the quickest of so many batches of calls.
+const BATCHES: usize = 40;
+const POINTS: usize = 1_000;
+
+/// Prints both tables; `plain` is the program of plain.cpp.
+pub fn print(plain: &str) -> Result<()> {
+  println!("| points | library, ns | Rust, ns | Rust / library |");
+  println!("|---|---|---|---|");
+  order_row(
+    "random crossings",
+    &crossings(|r| scattered(r, 8, 2 * LIMIT)),
+  );
+  order_row("near-tied crossings", &crossings(charts::near_ties));
+  println!();
+  println!(
+    "| chart | pieces | pairs | library, ms | Rust, ms | C++, ms | Rust / library | library / C++ |"
+  );
+  println!("|---|---|---|---|---|---|---|---|");
+  let random = &mut Random::new(SEED, 0);
+  let tempers = [
+    ("sparse", scattered(random, MOST_PIECES, 3_000)),
+    ("middle", scattered(random, MOST_PIECES, 12_000)),
+    ("dense", scattered(random, MOST_PIECES, 2 * LIMIT)),
+    ("every two cross", crossed(random)),
+  ];
+  for (name, chart) in tempers {
+    for n in [16, 32, 64] {
+      pairs_row(name, &chart[..n].to_vec(), plain)?;
+    }
+  }
+  Ok(())
+}
+
+/// Every point against the one after it.
+fn order_row(name: &str, points: &[Point]) {
+  let ours = points.iter().map(|p| (p.x as i64, p.y as i64, p.d as u64));
+  let ours: Vec<_> = ours.collect();
+  let theirs: Vec<_> = points.iter().map(original::corner_of).collect();
+  let library = least(20, || {
+    for two in ours.windows(2) {
+      let ((x1, y1, d1), (x2, y2, d2)) = (two[0], two[1]);
+      black_box(library::mirtalughe_compare_points(x1, y1, d1, x2, y2, d2));
+    }
+  });
+  let rust = least(5, || {
+    for two in theirs.windows(2) {
+      black_box(two[0].cmp(&two[1]));
+    }
+  });
+  let [library, rust] = [library, rust].map(|ns| ns / (points.len() - 1) as f64);
+  println!(
+    "| {name} | {library:.1} | {rust:.0} | {:.0} |",
+    rust / library
+  );
+}
+
+fn pairs_row(name: &str, chart: &Chart, plain: &str) -> Result<()> {
+  let n = chart.len();
+  let list = numbers(chart);
+  let original = Original::new(chart);
+  let mut bytes = vec![0; n * (n - 1)];
+  let calls = 10_000 / n;
+  let count = library::all_pairs(&list, &mut bytes).count;
+  let library = least(calls, || {
+    black_box(library::all_pairs(black_box(&list), &mut bytes));
+  });
+  let rust = least(calls, || {
+    black_box(black_box(&original).naive());
+  });
+  let (plain_count, cpp) = ask(plain, calls, &list)?;
+  if [plain_count, original.naive().len()] != [count; 2] {
+    return Err(Error::other("the counts of pairs differ"));
+  }
+  let ms = [library, rust, cpp]
+    .map(|ns| format!("{:.5}", ns / 1e6))
+    .join(" | ");
+  let ratios = [rust / library, library / cpp]
+    .map(|r| format!("{r:.1}"))
+    .join(" | ");
+  println!("| {name} | {n} | {count} | {ms} | {ratios} |");
+  Ok(())
+}
+
+/// Nanoseconds of one call, in the quickest batch.
+fn least(calls: usize, mut call: impl FnMut()) -> f64 {
+  let mut batch = || {
+    let start = Instant::now();
+    (0..calls).for_each(|_| call());
+    start.elapsed().as_nanos() as f64 / calls as f64
+  };
+  (0..BATCHES).map(|_| batch()).fold(f64::INFINITY, f64::min)
+}
+
+/// The plain loop's count of pairs and nanoseconds of one call.
+fn ask(plain: &str, calls: usize, list: &[i32]) -> Result<(usize, f64)> {
+  let mut program = Command::new(plain)
+    .stdin(Stdio::piped())
+    .stdout(Stdio::piped())
+    .spawn()?;
+  let mut question = format!("{BATCHES} {calls} {}", list.len() / 5);
+  list.iter().for_each(|v| question += &format!(" {v}"));
+  let mut input = program.stdin.take().expect("the input is piped");
+  input.write_all(question.as_bytes())?;
+  drop(input);
+  let told = String::from_utf8_lossy(&program.wait_with_output()?.stdout).into_owned();
+  let times = |(count, ns): (&str, &str)| Some((count.parse().ok()?, ns.parse().ok()?));
+  let told = told.trim().split_once(' ').and_then(times);
+  told.ok_or_else(|| Error::other("the plain loop tells no time"))
+}
+
+/// Crossings of random charts, in the order in which they are found.
+fn crossings(make: impl Fn(&mut Random) -> Chart) -> Vec<Point> {
+  let mut points = Vec::new();
+  for i in 0.. {
+    let chart = make(&mut Random::new(SEED, i));
+    let pairs = model::naive(&chart).into_iter();
+    points.extend(pairs.filter_map(|(a, b)| model::crossing(&chart[a], &chart[b])));
+    if points.len() >= POINTS {
+      break;
+    }
+  }
+  points
+}
+
+/// n pieces with both ends included, none upright.
+fn scattered(random: &mut Random, n: usize, reach: i32) -> Chart {
+  let mut chart = Chart::new();
+  while chart.len() < n {
+    let pieces = charts::scattered(random, 1, reach).into_iter();
+    let sloped = pieces.filter(|p| !is_upright(p));
+    chart.extend(sloped.map(|[_, x1, y1, x2, y2]| [3, x1, y1, x2, y2]));
+  }
+  chart
+}
+
+/// The higher a piece begins at the left, the lower it ends at the right.
+fn crossed(random: &mut Random) -> Chart {
+  let mut height = |i: i32| 1_000 * i + random.between(-400, 400);
+  (-32..32)
+    .map(|i| [3, -30_000, height(i), 30_000, height(-i)])
+    .collect()
+}
