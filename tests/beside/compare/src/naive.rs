@@ -46,7 +46,7 @@ fn compare_call(list: &[i32], lent: usize, pairs: Result<&[Pair], Refusal>) -> R
   let expected = (Answer::of(pairs.map(<[Pair]>::len)), expected);
   let answer = library::all_pairs(list, &mut bytes);
   let call = || format!("all pairs of {list:?} into {lent} bytes");
-  agree(call, "Rust", expected, "library", (answer, bytes))
+  agree(call, "Rust, scope", expected, "library", (answer, bytes))
 }
 
 /// Two bytes for every two of n pieces.
