@@ -1,0 +1,28 @@
+-- Each call's contract allows one answer, and one content of what is lent.
+use mathlib.Core.Path.{sym, _∙_}
+use denote.Ref.{now}
+use Rattle.charts.specs.Outcome.{OneResult, OneOutcome}
+use Rattle.chart_c.proofs.mirtalughe_orient.Reads as orient
+use Rattle.chart_c.proofs.mirtalughe_compare_points.Reads as compare-points
+use Rattle.chart_c.proofs.mirtalughe_read.Reads as read
+use Rattle.chart_c.proofs.mirtalughe_meeting.Reads as meeting
+use Rattle.chart_c.proofs.mirtalughe_place.Reads as place
+use Rattle.chart_c.proofs.mirtalughe_all_pairs.Reads as all-pairs
+
+pub orient-once : OneResult orient.Post
+orient-once κ a x y s t h k = h ∙ sym k
+
+pub compare-points-once : OneResult compare-points.Post
+compare-points-once κ a x y s t h k = h ∙ sym k
+
+pub read-once : OneOutcome read.Post (λ κ s. now (s .1 .0))
+read-once κ a x y s t h k = (h .answer ∙ sym (k .answer), h .content ∙ sym (k .content))
+
+pub meeting-once : OneResult meeting.Post
+meeting-once κ a x y s t h k = h ∙ sym k
+
+pub place-once : OneResult place.Post
+place-once κ a x y s t h k = h ∙ sym k
+
+pub all-pairs-once : OneOutcome all-pairs.Post (λ κ s. now (s .1 .0))
+all-pairs-once κ a x y s t h k = (h .0 ∙ sym (k .0), h .1 ∙ sym (k .1))
