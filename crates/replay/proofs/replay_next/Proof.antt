@@ -3,8 +3,8 @@ use borrow.Author.Needs.{needs}
 use mathlib.Core.Path.{sym}
 use native.Mathlib.Omega.{arith}
 use lib.Seq.{length-take-le}
-use Rattle.replay_file.proofs.replay_next.Statement.{statement}
-use Rattle.replay_file.proofs.replay_next.Tie as tie
+use Rattle.replay.proofs.replay_next.Statement.{statement}
+use Rattle.replay.proofs.replay_next.Tie as tie
 
 slice-aggregate-replay-full : tie.Need-slice-aggregate-replay-full
 slice-aggregate-replay-full c =

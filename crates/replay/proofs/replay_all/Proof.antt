@@ -1,19 +1,19 @@
--- `main` counts its turns down.
+-- `replay_all` counts its turns down.
 use borrow.Author.Needs.{needs}
 use mathlib.Core.Path.{_≡_}
 use Prim.Native.Nat.{_<_, _^_}
 use lib.ListN.{length}
-use Rattle.replay_file.proofs.main.Statement.{statement}
-use Rattle.replay_file.proofs.main.Tie as tie
+use Rattle.replay.proofs.replay_all.Statement.{statement}
+use Rattle.replay.proofs.replay_all.Tie as tie
 
 abbrev Inv-loop : tie.InvT-loop
-Inv-loop space₀ turns₀ space turns = (turns < 2 ^ 64) × (length space ≡ length space₀)
+Inv-loop asked space₀ turns₀ space turns = (turns < 2 ^ 64) × (length space ≡ length space₀)
 
 abbrev μ-loop : tie.MeasureT-loop
-μ-loop space₀ turns₀ space turns = turns
+μ-loop asked space₀ turns₀ space turns = turns
 
-pub main-spec : {M : Type 1} → statement M
-main-spec =
+pub replay-all-spec : {M : Type 1} → statement M
+replay-all-spec =
     tie.close
     (tie.spec
     Inv-loop

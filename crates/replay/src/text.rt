@@ -1,0 +1,39 @@
+// Words and numbers on standard output.
+use libc::STDOUT_FILENO;
+
+pub fn words(bytes: &[u8]) {
+    io::write_all(STDOUT_FILENO, bytes);
+}
+
+pub fn number(before: &[u8], v: u64) {
+    words(before);
+    io::print_decimal(STDOUT_FILENO, v);
+}
+
+pub fn signed(before: &[u8], v: i64) {
+    words(before);
+    if v < 0 {
+        words(b"-");
+    }
+    io::print_decimal(STDOUT_FILENO, integers::size(v));
+}
+
+pub fn refusal(fault: u8, place: usize) {
+    number(b"refused ", fault as u64);
+    number(b" ", place as u64);
+    words(b"\n");
+}
+
+fn coordinate(v: i32) {
+    signed(b" ", v as i64);
+}
+
+// The count of a chart's pieces and its numbers.
+pub fn chart(list: &[i32]) {
+    let n = list.len();
+    number(b"read ", (n / 5) as u64);
+    for i in 0..n {
+        coordinate(list[i]);
+    }
+    words(b"\n");
+}
