@@ -2,7 +2,9 @@
 // numbers a piece: min's x and y, max's x and y, and the marks of both. Past its end every number is 0.
 // End 2i is the min of piece i, end 2i + 1 its max; pair MOST * i + j is that of pieces i and j.
 mod heights;
+mod table;
 
+pub use table::fill;
 ghost use mathlib.Core.Path.{_≡_};
 ghost use Prim.Native.Nat.{ℕ, _+_, _*_, _/_, _%_};
 ghost use Rattle.fractions.specs.Point.{pointOrder};
