@@ -1,6 +1,7 @@
 // Replays recorded files for the programs replay_*. A file stands on standard input as its length, two bytes, low first,
 // and its bytes; what the library answers on it is written as the Rust's answers were (tests/recorded/README.md).
 mod meeting;
+mod places;
 mod text;
 
 use libc::STDIN_FILENO;
@@ -9,12 +10,14 @@ use libc::STDIN_FILENO;
 pub enum Asked {
     Reading,
     Meeting,
+    Place,
 }
 
 fn answer(asked: Asked, list: &[i32]) {
     match asked {
         Asked::Reading => text::chart(list),
         Asked::Meeting => meeting::write(list),
+        Asked::Place => places::write(list),
     }
 }
 

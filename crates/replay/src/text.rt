@@ -18,6 +18,16 @@ pub fn signed(before: &[u8], v: i64) {
     io::print_decimal(STDOUT_FILENO, integers::size(v));
 }
 
+// The 16 hexadecimal digits of a binary64.
+pub fn binary64(before: &[u8], v: f64) {
+    words(before);
+    if v == v {
+        io::print_hex(STDOUT_FILENO, f64::to_bits(v), 16);
+    } else {
+        words(b"nan");
+    }
+}
+
 pub fn refusal(fault: u8, place: usize) {
     number(b"refused ", fault as u64);
     number(b" ", place as u64);
