@@ -1,6 +1,7 @@
 // Replays recorded files for the programs replay_*. A file stands on standard input as its length, two bytes, low first,
 // and its bytes; what the library answers on it is written as the Rust's answers were (tests/recorded/README.md).
 mod meeting;
+mod pairs;
 mod places;
 mod text;
 
@@ -11,6 +12,7 @@ pub enum Asked {
     Reading,
     Meeting,
     Place,
+    AllPairs,
 }
 
 fn answer(asked: Asked, list: &[i32]) {
@@ -18,6 +20,7 @@ fn answer(asked: Asked, list: &[i32]) {
         Asked::Reading => text::chart(list),
         Asked::Meeting => meeting::write(list),
         Asked::Place => places::write(list),
+        Asked::AllPairs => pairs::write(list),
     }
 }
 

@@ -47,3 +47,18 @@ pub fn chart(list: &[i32]) {
     }
     words(b"\n");
 }
+
+fn piece(i: u8) {
+    number(b" ", i as u64);
+}
+
+// So many pairs, two bytes a pair.
+pub fn pairs(bytes: &[u8], count: usize) {
+    let n = bytes.len();
+    for i in 0..n {
+        if i / 2 < count {
+            piece(bytes[i]);
+        }
+    }
+    words(b"\n");
+}
