@@ -1,0 +1,2 @@
+// The listing of a chart, as text in lent bytes.
+mod lines;
