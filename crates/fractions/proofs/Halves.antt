@@ -44,10 +44,16 @@ parts {a} {b} h k =
 pub fits : {n : ℕ} → n ≤ most → Fits w64 n
 fits h = omega arith
 
--- the middle sum has the limbs mh and ml, the low one lh and ll
-module _ (p q r t mh ml lh ll : ℕ) (mid : mh * 2 ^ 64 + ml ≡ q + r) (low : lh * 2 ^ 64 + ll ≡ p + ml % 2 ^ 32 * 2 ^ 32) where
-  pub columns : (w : ℕ) → w ≡ t * 2 ^ 64 + r * 2 ^ 32 + (q * 2 ^ 32 + p) → (t + ml / 2 ^ 32 + mh * 2 ^ 32 + lh) * 2 ^ 64 + ll ≡ w
-  columns w e = omega arith
+-- the low limb: of the middle sum m and of the low one only what stays below 2^64
+pub low-limb :
+    (p q r t w m : ℕ) → w ≡ t * 2 ^ 64 + r * 2 ^ 32 + (q * 2 ^ 32 + p) → m ≡ (q + r) % 2 ^ 64 →
+    (p + m % 2 ^ 32 * 2 ^ 32) % 2 ^ 64 ≡ w % 2 ^ 64
+low-limb p q r t w m whole mid = omega arith
 
-  pub high-fits : p ≤ most → q ≤ most → r ≤ most → t ≤ most → t + ml / 2 ^ 32 + mh * 2 ^ 32 + lh < 2 ^ 64
+-- the high limb: the middle sum, to which the low product carries, has the limbs mh and ml
+module _ (p q r t mh ml : ℕ) (mid : mh * 2 ^ 64 + ml ≡ q + (r + p / 2 ^ 32)) where
+  pub high-limb : (w : ℕ) → w ≡ t * 2 ^ 64 + r * 2 ^ 32 + (q * 2 ^ 32 + p) → t + ml / 2 ^ 32 + mh * 2 ^ 32 ≡ w / 2 ^ 64
+  high-limb w whole = omega arith
+
+  pub high-fits : p ≤ most → q ≤ most → r ≤ most → t ≤ most → t + ml / 2 ^ 32 + mh * 2 ^ 32 < 2 ^ 64
   high-fits hp hq hr ht = omega arith

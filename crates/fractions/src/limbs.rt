@@ -1,7 +1,7 @@
 // Numbers of two limbs, 64 bits each: room for the products that outgrow 64 bits.
 use crate::Order;
 ghost use mathlib.Core.Path.{_≡_};
-ghost use Prim.Native.Nat.{_+_, _*_, _^_, _≤_};
+ghost use Prim.Native.Nat.{_+_, _*_, _%_, _^_, _≤_};
 ghost use lib.IntN.{pos, negℤ};
 ghost use Rattle.fractions.specs.Order.{order};
 ghost use Rattle.fractions.specs.Limbs.{value};
@@ -45,7 +45,16 @@ fn difference(x: u64, y: u64) -> Rest
     }
 }
 
-// The whole product, by halves of 32 bits.
+// a * b, modulo 2^64.
+fn wrapping_product(a: u64, b: u64) -> u64
+    ensures { λ r. ⌜ r ≡ a * b % 2 ^ 64 ⌝ }
+{
+    let mid = std::num::wrapping_add_u64(a % HALF * (b / HALF), a / HALF * (b % HALF));
+    std::num::wrapping_add_u64(a % HALF * (b % HALF), mid % HALF * HALF)
+}
+
+// The whole product, by halves of 32 bits. The low limb is worked out apart from the high one: so
+// the compiler recognises each, and makes one multiplication of both.
 pub fn product(a: u64, b: u64) -> Wide
     ensures { λ r. ⌜ value r ≡ a * b ⌝ }
 {
@@ -53,11 +62,10 @@ pub fn product(a: u64, b: u64) -> Wide
     let a1 = a / HALF;
     let b0 = b % HALF;
     let b1 = b / HALF;
-    let mid = sum(a0 * b1, a1 * b0);
-    let low = sum(a0 * b0, mid.lo % HALF * HALF);
+    let mid = sum(a0 * b1, a1 * b0 + a0 * b0 / HALF);
     Wide {
-        hi: a1 * b1 + mid.lo / HALF + mid.hi * HALF + low.hi,
-        lo: low.lo,
+        hi: a1 * b1 + mid.lo / HALF + mid.hi * HALF,
+        lo: wrapping_product(a, b),
     }
 }
 
