@@ -1,0 +1,232 @@
+"""The three forms of a chart that people and programs exchange: readable text, the chart file, and the listing that the
+program `chart` prints. Whatever is wrong is told with the line or byte at which it stands, and which number it is."""
+import re
+from dataclasses import dataclass, field
+
+MOST_PIECES = 64
+LIMIT = 32767
+MOST_GROUPS = 3
+NUMBERS = ("kind", "x1", "y1", "x2", "y2")
+
+REFUSALS = {
+    1: "the file ends inside a number or before one that is due",
+    2: "a third group has its high bit set, or the last of several groups is zero",
+    3: f"the count is above {MOST_PIECES}",
+    4: "a kind is outside 0 to 3",
+    5: f"a coordinate is outside -{LIMIT} to {LIMIT}",
+    6: "both ends of a piece are equal",
+    7: "there are bytes after the last piece",
+    8: "the lent room is too small",
+    9: "the list's length is not a multiple of five or, for a pair, not ten",
+}
+
+
+class Wrong(Exception):
+    """Something in what was given is wrong; the text says what and where."""
+
+
+class Refused(Wrong):
+    """A chart file that has a fault: the refusal's number, and the byte that is its place."""
+
+    def __init__(self, number, place, told):
+        super().__init__(f"byte {place}: {told} (refused {number}: {REFUSALS[number]})")
+        self.number, self.place = number, place
+
+
+@dataclass(frozen=True)
+class Piece:
+    kind: int
+    x1: int
+    y1: int
+    x2: int
+    y2: int
+    name: str = ""
+
+    def numbers(self):
+        return self.kind, self.x1, self.y1, self.x2, self.y2
+
+    def ends(self):
+        """x, y and whether the end is included, of the first and of the second."""
+        return (self.x1, self.y1, self.kind & 1 != 0), (self.x2, self.y2, self.kind & 2 != 0)
+
+
+@dataclass(frozen=True)
+class Chart:
+    """The pieces, and what the text says for a picture: its title and what its two axes are."""
+
+    pieces: list
+    headings: dict = field(default_factory=dict)
+
+
+@dataclass(frozen=True)
+class Meeting:
+    """A pair, and the point or the two ends of the stretch at which it meets."""
+
+    pair: tuple
+    place: tuple
+
+    def is_overlap(self):
+        return len(self.place) == 4
+
+
+@dataclass(frozen=True)
+class Listing:
+    count: int
+    complete: bool
+    meetings: list
+    steps: int
+
+
+def whole(word):
+    """The whole number that a word stands for, or none. Nine digits are more than any number here has."""
+    return int(word) if re.fullmatch("-?[0-9]{1,9}", word) else None
+
+
+def lines_of(data):
+    try:
+        return data.decode("utf-8").splitlines()
+    except UnicodeDecodeError as e:
+        line = data[: e.start].count(b"\n") + 1
+        raise Wrong(f"line {line}: byte {e.start} of the text is not UTF-8") from None
+
+
+# Readable text: a line for each piece, `kind x1 y1 x2 y2`, and comments from `#` on.
+
+
+def chart_of_text(data):
+    pieces, headings = [], {}
+    for at, line in enumerate(lines_of(data), 1):
+        numbers, _, comment = (part.strip() for part in line.partition("#"))
+        if numbers:
+            if len(pieces) == MOST_PIECES:
+                raise Wrong(f"line {at}: piece {MOST_PIECES} is one too many, a chart has at most {MOST_PIECES}")
+            pieces.append(piece_of_words(numbers.split(), comment, f"line {at}"))
+        elif heading := re.match("(title|across|up): *(.+)", comment):
+            headings[heading[1]] = heading[2]
+    return Chart(pieces, headings)
+
+
+def piece_of_words(words, name, where):
+    if len(words) != len(NUMBERS):
+        raise Wrong(f"{where}: {len(words)} words where a piece has five numbers: {' '.join(NUMBERS)}")
+    numbers = []
+    for at, (word, meaning) in enumerate(zip(words, NUMBERS), 1):
+        number, least, most = whole(word), *((0, 3) if meaning == "kind" else (-LIMIT, LIMIT))
+        if number is None:
+            raise Wrong(f"{where}: number {at} ({meaning}) is {word[:20]!r}, which is not a whole number")
+        if not least <= number <= most:
+            raise Wrong(f"{where}: number {at} ({meaning}) is {number}, it must be from {least} to {most}")
+        numbers.append(number)
+    if numbers[1:3] == numbers[3:5]:
+        raise Wrong(f"{where}: both ends are {numbers[1]} {numbers[2]}, a piece has some length")
+    return Piece(*numbers, name)
+
+
+def text_of_chart(chart):
+    rows = [" ".join(map(str, piece.numbers())) for piece in chart.pieces]
+    return "".join(row + "\n" for row in [f"# {' '.join(NUMBERS)}"] + rows).encode()
+
+
+# The chart file: the count, then the five numbers of each piece, in groups of seven bits.
+
+
+def file_of_chart(chart):
+    data = bytearray([len(chart.pieces)])
+    for piece in chart.pieces:
+        data.append(piece.kind)
+        for v in piece.numbers()[1:]:
+            stored = 2 * v if v >= 0 else -2 * v - 1
+            while stored >= 0x80:
+                data.append(stored & 0x7F | 0x80)
+                stored >>= 7
+            data.append(stored)
+    return bytes(data)
+
+
+def chart_of_file(data):
+    if not data:
+        raise Refused(1, 0, "the count is due")
+    if data[0] > MOST_PIECES:
+        raise Refused(3, 0, f"the count is {data[0]}")
+    pieces, at = [], 1
+    while len(pieces) < data[0]:
+        piece, end = piece_at(data, at, len(pieces))
+        pieces.append(piece)
+        at = end
+    if at < len(data):
+        raise Refused(7, at, f"piece {len(pieces) - 1} was the last" if pieces else "there are no pieces")
+    return Chart(pieces)
+
+
+def piece_at(data, start, piece):
+    if start == len(data):
+        raise Refused(1, start, f"the kind of piece {piece} is due")
+    if data[start] > 3:
+        raise Refused(4, start, f"the kind of piece {piece} is {data[start]}")
+    numbers, at = [data[start]], start + 1
+    for meaning in NUMBERS[1:]:
+        number, at = coordinate_at(data, at, f"{meaning} of piece {piece}")
+        numbers.append(number)
+    if numbers[1:3] == numbers[3:5]:
+        raise Refused(6, start, f"both ends of piece {piece} are {numbers[1]} {numbers[2]}")
+    return Piece(*numbers), at
+
+
+def coordinate_at(data, start, meaning):
+    groups = 0
+    while groups < MOST_GROUPS and start + groups < len(data) and data[start + groups] & 0x80:
+        groups += 1
+    if groups == MOST_GROUPS:
+        raise Refused(2, start, f"{meaning} does not end")
+    if start + groups == len(data):
+        raise Refused(1, start, f"{meaning} is {'cut' if groups else 'due'}")
+    if groups and data[start + groups] == 0:
+        raise Refused(2, start, f"{meaning} has a group too many")
+    end = start + groups + 1
+    stored = sum((byte & 0x7F) << 7 * i for i, byte in enumerate(data[start:end]))
+    number = -(stored + 1 >> 1) if stored & 1 else stored >> 1
+    if abs(number) > LIMIT:
+        raise Refused(5, start, f"{meaning} is {number}")
+    return number, end
+
+
+# The listing: `chart N`, `complete yes`, a line for each pair, `steps S`; or `refused K`.
+
+
+def listing_of_text(data):
+    lines = [line.split() for line in lines_of(data)]
+    if lines and lines[0][:1] == ["refused"]:
+        refused = number_after("refused", lines, 0)
+        raise Wrong(f"line 1: the chart was refused with {refused}: {REFUSALS.get(refused, 'no refusal of a chart')}")
+    count = number_after("chart", lines, 0)
+    if lines[1:2] not in ([["complete", "yes"]], [["complete", "no"]]):
+        raise Wrong("line 2: `complete yes` or `complete no` is due")
+    last = max(2, len(lines) - 1)
+    meetings = [meeting_at(lines, at, count) for at in range(2, last)]
+    return Listing(count, lines[1][1] == "yes", meetings, number_after("steps", lines, last))
+
+
+def number_after(word, lines, at):
+    """The number of a line that is a word and a number."""
+    line = lines[at] if at < len(lines) else []
+    if len(line) != 2 or line[0] != word:
+        raise Wrong(f"line {at + 1}: `{word}` and a number are due, not {' '.join(line)!r}")
+    return number_of(line, 1, f"line {at + 1}")
+
+
+def number_of(line, i, where):
+    number = whole(line[i])
+    if number is None:
+        raise Wrong(f"{where}: word {i + 1} is {line[i][:20]!r}, which is not a whole number")
+    return number
+
+
+def meeting_at(lines, at, count):
+    line, where = lines[at], f"line {at + 1}"
+    due = {"at": 6, "along": 8}.get(line[3] if len(line) > 3 else "")
+    if due != len(line) or line[0] != "pair":
+        raise Wrong(f"{where}: `pair a b at x y` or `pair a b along x1 y1 x2 y2` is due, not {' '.join(line)!r}")
+    pair = number_of(line, 1, where), number_of(line, 2, where)
+    if not 0 <= pair[0] < pair[1] < count:
+        raise Wrong(f"{where}: {pair[0]} {pair[1]} is no pair of pieces below {count}, lesser first")
+    return Meeting(pair, tuple(number_of(line, i, where) for i in range(4, due)))
