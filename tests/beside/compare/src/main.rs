@@ -3,6 +3,7 @@
 //!   compare gate               the fixed charts
 //!   compare long SEED COUNT    COUNT random charts of each temper from SEED
 //!   compare record FOLDER      writes the Rust's answers on a fixed sample
+//!   compare listing FILE       what the Rust lists of a chart file, as the chart program's text
 //!   compare bench PLAIN        how long calls take, beside the Rust and the program PLAIN
 
 mod answers;
@@ -60,6 +61,7 @@ fn main() -> ExitCode {
       _ => return usage(),
     },
     ["record", folder] => return written(record::write(folder.as_ref())),
+    ["listing", file] => return written(record::print_listing(file.as_ref())),
     ["bench", plain] => return written(bench::print(plain)),
     _ => return usage(),
   };
@@ -91,7 +93,7 @@ fn main() -> ExitCode {
 }
 
 fn usage() -> ExitCode {
-  eprintln!("usage: compare gate | long SEED COUNT | record FOLDER | bench PLAIN");
+  eprintln!("usage: compare gate | long SEED COUNT | record FOLDER | listing FILE | bench PLAIN");
   ExitCode::from(2)
 }
 

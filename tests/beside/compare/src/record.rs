@@ -27,6 +27,15 @@ pub fn write(folder: &Path) -> io::Result<()> {
   write_files(&folder.join("file"), &files, answers.collect())
 }
 
+/// The chart program's text for a chart file; a refusal is the model's.
+pub fn print_listing(file: &Path) -> io::Result<()> {
+  match file::read(&fs::read(file)?) {
+    Ok(chart) => print!("{}", listing(&chart)),
+    Err((number, _)) => println!("refused {number}"),
+  }
+  Ok(())
+}
+
 fn write_one(folder: &Path, charts: &[Chart], answer: fn(&Chart) -> String) -> io::Result<()> {
   let files: Vec<Vec<u8>> = charts.iter().map(file::write).collect();
   write_files(folder, &files, charts.iter().map(answer).collect())
