@@ -7,6 +7,7 @@
 --   what a file begins with                       Begun
 --   a reading and its row                         Files        reads-exactly, by Forth and Back
 --   files and charts; the longest file            Files        reads-file, file-reads, reads-once; Longest
+--   how much of an input decides its reading      Early        decided-early
 --   the count of pieces that were read            Counts       read-most
 -- `Passed`, `Numbers`, `Kept` and `Whole` are what the proofs of the code stand on.
 pub mod Spelling
@@ -22,6 +23,7 @@ pub mod Forth
 pub mod Back
 pub mod Files
 pub mod Longest
+pub mod Early
 pub mod Counts
 pub mod Examples
 pub mod Kept
