@@ -1,12 +1,12 @@
-/* The first example of the scope: two pieces, and where they meet. */
+/* Two pieces, from 0 0 to 4 4 and from 0 4 to 4 0, each with both ends: which pair meets, and where. */
 #include <stdio.h>
 #include "mirtalughe.h"
 
 int main(void) {
     int32_t list[] = {3, 0, 0, 4, 4, 3, 0, 4, 4, 0};
     uint8_t pairs[2];
-    mirtalughe_answer a = mirtalughe_all_pairs(list, 10, pairs, sizeof pairs);
-    mirtalughe_placed p = mirtalughe_place(list, 10);
-    if (a.number || p.number) return printf("refused %d %d\n", a.number, p.number), 1;
-    printf("pieces %d and %d meet at %g, %g\n", pairs[1], pairs[0], p.x1, p.y1);
+    mirtalughe_answer listed = mirtalughe_all_pairs(list, 10, pairs, sizeof pairs);
+    mirtalughe_placed placed = mirtalughe_place(list, 10);
+    if (listed.number != 0) return printf("refused %d, place %zu\n", listed.number, listed.place);
+    printf("pair %d %d at %g %g\n", pairs[1], pairs[0], placed.x1, placed.y1);
 }

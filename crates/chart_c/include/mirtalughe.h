@@ -6,6 +6,10 @@
 #include <stddef.h>
 #include <stdint.h>
 
+#ifdef __cplusplus
+extern "C" {
+#endif
+
 /* A number of the table of refusals, 0 where the call is done; its place; and the count of pieces
    read or pairs listed. A refusal has count 0 and leaves lent memory as it is. */
 typedef struct {
@@ -57,5 +61,9 @@ mirtalughe_placed mirtalughe_place(const int32_t *list, size_t length);
 /* Every pair of the n pieces of a list that meet, two bytes a pair: for a from 0, for b below a. `lent` is
    to be at least n(n - 1). Bytes past the last pair keep their values. */
 mirtalughe_answer mirtalughe_all_pairs(const int32_t *list, size_t length, uint8_t *pairs, size_t lent);
+
+#ifdef __cplusplus
+}
+#endif
 
 #endif
