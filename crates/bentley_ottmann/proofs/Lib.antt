@@ -1,3 +1,5 @@
 pub mod Reports
 pub mod Examinations
 pub mod Assembling
+pub mod Running
+mod Beginning

@@ -1,4 +1,6 @@
 // Module 6, the sweep, after the Rust's bentley_ottmann.rs: one mark for each pair, the list in lent bytes, and the step.
+mod run;
+
 ghost use mathlib.Core.Path.{_≡_};
 ghost use Prim.Native.Nat.{ℕ, _+_, _-_, _*_, _≤_, _<_};
 ghost use lib.ListN.{length, take, drop, set, getD};
@@ -24,6 +26,12 @@ ghost use Rattle.bentley_ottmann.specs.Views.{rangedOf, sheet};
 use charts::MOST;
 use fractions::Point;
 use line_segment::Meeting;
+
+// The last point visited, or none.
+pub enum Last {
+    None,
+    At(Point),
+}
 
 // The marks of a pair.
 const FREE: u8 = 0;

@@ -1,0 +1,128 @@
+-- `bentley_ottmann::run::go` meets its contract: after each step the arrays are the sheet.
+use borrow.Author.Needs.{needs}
+use mathlib.Core.Path.{_∙_}
+use Prim.Native.Nat.{_-_}
+use native.Mathlib.Omega.{arith}
+use Rattle.bentley_ottmann.proofs.Running.{Going, begins, ends-left, waiting-left, spent-all, ran-out, advances}
+use Rattle.bentley_ottmann.proofs.run.go.Statement.{statement}
+use Rattle.bentley_ottmann.proofs.run.go.Tie as tie
+use Rattle.bentley_ottmann.proofs.run.go.Reads as reads
+use Rattle.bentley_ottmann.proofs.run.go.Lts as lts
+use Rattle.bentley_ottmann.proofs.run.is_empty.Reads as is-empty-reads
+use Rattle.bentley_ottmann.proofs.run.last_at.Reads as last-at-reads
+use Rattle.bentley_ottmann.proofs.step.Reads as step-reads
+use Rattle.event_queue.proofs.next_point.Reads as next-point-reads
+
+abbrev Inv-loop : tie.InvT-loop
+Inv-loop table ends budget active₀ marks₀ waiting₀ bytes₀ passed₀ live₀ head₀ end₀ steps₀ last₀ active marks waiting bytes passed live head end steps last =
+    Going table ends active₀ marks₀ waiting₀ bytes₀ budget active marks waiting bytes passed live head end steps last
+
+abbrev μ-loop : tie.MeasureT-loop
+μ-loop table ends budget active₀ marks₀ waiting₀ bytes₀ passed₀ live₀ head₀ end₀ steps₀ last₀ active marks waiting bytes passed live head end steps last =
+    budget - steps
+
+loop-holds : tie.Need-loop-holds Inv-loop μ-loop
+loop-holds c = let a = c .before .before .before .before .before .args in begins (a .table .now) (a .ends .now) (a .active .now) (a .marks .now) (a .waiting .now) (a .bytes .now) (a .budget) _
+
+next-point-requires : tie.Need-next-point-requires Inv-loop μ-loop
+next-point-requires c κs = search needs
+
+enum-told : tie.Need-enum-told Inv-loop μ-loop
+enum-told c = search needs
+
+last-at-requires : tie.Need-last-at-requires Inv-loop μ-loop
+last-at-requires c κs = search needs
+
+same-length : tie.Need-same-length Inv-loop μ-loop
+same-length c = search needs
+
+same-length-2 : tie.Need-same-length-2 Inv-loop μ-loop
+same-length-2 c = search needs
+
+same-length-3 : tie.Need-same-length-3 Inv-loop μ-loop
+same-length-3 c = search needs
+
+same-length-4 : tie.Need-same-length-4 Inv-loop μ-loop
+same-length-4 c = search needs
+
+returns : tie.Need-returns Inv-loop μ-loop
+returns c n B = ran-out (c .before .before .before .before .before .before .loop .inv) n B (c .before .before .before .next-point .ensures n) (c .before .enum-told .given .1) (c .last-at .ensures)
+
+enum-known-p : tie.Need-enum-known-p Inv-loop μ-loop
+enum-known-p c = search needs
+
+step-requires : tie.Need-step-requires Inv-loop μ-loop
+step-requires c κs =
+    let G = c .before .before .before .before .before .before .before .before .before .before .loop .inv in
+    let B = c .before .before .before .before .before .before .before .before .before .before .before .before .before .before .before .before .pre in (
+      G .within,
+      omega (arith, B .1 .count, B .1 .few),
+      ends-left G (B .0) (B .1),
+      G .lives,
+      G .active-long ∙ B .1 .actives,
+      G .heads,
+      omega (arith, G .waiting-long, B .1 .waits),
+      waiting-left G (B .0) (B .1),
+    )
+
+add-steps : tie.Need-add-steps Inv-loop μ-loop
+add-steps c = record { fits = omega (arith, c .before .before .before .before .before .before .before .before .before .before .before .before .before .before .before .before .before .before .loop-test, c .before .before .before .before .before .before .before .before .before .before .before .before .before .before .before .before .before .before .before .before .before .before .before .before .before .fits .budget) }
+
+loop-less : tie.Need-loop-less Inv-loop μ-loop
+loop-less c = search needs
+
+loop-again : tie.Need-loop-again Inv-loop μ-loop
+loop-again c =
+    let does = c .before .before .before .before .before .before .before .before .step .ensures in
+    advances (c .before .before .before .before .before .before .before .before .before .before .before .before .before .before .before .before .before .before .before .loop .inv) (omega (arith, c .before .before .before .before .before .before .before .before .before .before .before .before .before .before .before .before .before .before .loop-test)) (does .0) (does .1) (does .2)
+    (c .before .before .before .before .before .before .before .active .given) (c .before .before .before .before .before .marks .given) (c .before .before .before .waiting .given) (c .before .bytes .given)
+    (c .before .before .before .before .before .before .before .before .before .before .before .before .before .before .before .before .next-point .ensures) (c .before .before .before .before .before .before .before .before .before .before .before .before .before .before .p .given .1) (does .3)
+
+is-empty-requires : tie.Need-is-empty-requires Inv-loop μ-loop
+is-empty-requires c κs = search needs
+
+last-at-requires-2 : tie.Need-last-at-requires-2 Inv-loop μ-loop
+last-at-requires-2 c κs = search needs
+
+same-length-5 : tie.Need-same-length-5 Inv-loop μ-loop
+same-length-5 c = search needs
+
+same-length-6 : tie.Need-same-length-6 Inv-loop μ-loop
+same-length-6 c = search needs
+
+same-length-7 : tie.Need-same-length-7 Inv-loop μ-loop
+same-length-7 c = search needs
+
+same-length-8 : tie.Need-same-length-8 Inv-loop μ-loop
+same-length-8 c = search needs
+
+returns-2 : tie.Need-returns-2 Inv-loop μ-loop
+returns-2 c n B = spent-all (c .before .before .before .before .loop .inv) n B (omega (arith, c .before .before .before .loop-test)) (c .before .is-empty .ensures n) (c .last-at2 .ensures)
+
+pub go-spec : {M : Type 1} → statement M
+go-spec =
+    tie.close
+    (tie.spec
+    Inv-loop
+    μ-loop
+    loop-holds
+    next-point-requires
+    enum-told
+    last-at-requires
+    same-length
+    same-length-2
+    same-length-3
+    same-length-4
+    returns
+    enum-known-p
+    step-requires
+    add-steps
+    loop-less
+    loop-again
+    is-empty-requires
+    last-at-requires-2
+    same-length-5
+    same-length-6
+    same-length-7
+    same-length-8
+    returns-2)

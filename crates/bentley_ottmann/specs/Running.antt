@@ -1,0 +1,57 @@
+-- What the arrays hold when a run begins, and what is told where it stops.
+use mathlib.Core.Path.{_≡_}
+use mathlib.Core.Bool.{Bool, cond}
+use mathlib.Core.List.{List, []}
+use mathlib.Core.Option.{Option, none, some}
+use Prim.Native.Nat.{ℕ, _*_, _≤_, _<_}
+use lib.Dec.{eqb}
+use lib.IntN.{ℤ}
+use lib.ListN.{length}
+use Rattle.fractions.specs.declared.Point.{Point}
+use Rattle.line_segment.specs.Piece.{HasLength}
+use Rattle.charts.specs.Chart.{most}
+use Rattle.charts.specs.Answer.{room}
+use Rattle.sweep.specs.Lists.{upto}
+use Rattle.sweep.specs.Chart.{Chart}
+use Rattle.sweep.specs.Run.{is-none}
+use Rattle.sweep_arrays.specs.Numbers.{end-before}
+use Rattle.sweep_arrays.specs.Insertion.{insert-all}
+use Rattle.sweep_arrays.specs.Event.{Sheet}
+use Rattle.sweep_arrays.specs.Run.{blank, next}
+use Rattle.segments.specs.Table.{pieceIn, chartIn}
+use Rattle.bentley_ottmann.specs.declared.Last.{Last}
+use Rattle.bentley_ottmann.specs.declared.Last.the-variants.{None, At}
+use Rattle.bentley_ottmann.specs.declared.run.Stop.{Stop}
+
+-- a place for every pair of the largest chart
+abbrev pub places : ℕ
+places = 2016
+
+abbrev pub asLast : Option Point → Last
+asLast none = None
+asLast (some p) = At p
+
+abbrev pub lastAt : ℕ → Point → Last
+lastAt steps p = cond (eqb steps 0) None (At p)
+
+pub record Begun (n : ℕ) (table : List ℤ) (ends active marks waiting bytes : List ℕ) : Type 0 where
+  pub few : n ≤ most
+  pub long : (i : ℕ) → i < n → HasLength (pieceIn table i)
+  pub count : length ends ≡ 2 * n
+  pub in-order : ends ≡ insert-all (end-before (chartIn n table)) [] (upto (2 * n))
+  pub actives : length active ≡ most
+  pub free : marks ≡ blank
+  pub waits : length waiting ≡ places
+  pub lists : room n ≤ length bytes
+
+module _ (n : ℕ) (table : List ℤ) where
+  abbrev chart : Chart
+  chart = chartIn n table
+
+  -- a run that came to this sheet stops so, and leaves these bytes
+  pub record Stopped (s : Sheet chart) (stop : Stop) (bytes : List ℕ) : Type 0 where
+    pub end-is : stop .end ≡ s .ledger .end
+    pub steps-are : stop .steps ≡ s .steps
+    pub ended-is : stop .ended ≡ is-none chart (next chart s)
+    pub last-is : stop .last ≡ asLast (s .last)
+    pub bytes-are : bytes ≡ s .ledger .bytes
