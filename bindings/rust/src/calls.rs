@@ -1,0 +1,62 @@
+//! The calls as crates/chart_c/include/mirtalughe.h has them.
+
+use crate::EndPoint;
+use crate::refusal::{self, Given, Refusal};
+
+#[link(name = "chart_c", kind = "static")]
+unsafe extern "C" {
+  pub safe fn mirtalughe_orient(x1: i16, y1: i16, x2: i16, y2: i16, x3: i16, y3: i16) -> i8;
+  pub safe fn mirtalughe_compare_points(x1: i64, y1: i64, d1: u64, x2: i64, y2: i64, d2: u64) -> i8;
+  pub fn mirtalughe_read(file: *const u8, size: usize, list: *mut i32, lent: usize) -> Answer;
+  pub fn mirtalughe_meeting(list: *const i32, length: usize) -> Met;
+  pub fn mirtalughe_place(list: *const i32, length: usize) -> Placed;
+  pub fn mirtalughe_all_pairs(list: *const i32, length: usize, pairs: *mut u8, lent: usize) -> Answer;
+}
+
+#[repr(C)]
+pub struct Answer {
+  number: u8,
+  place: usize,
+  count: usize,
+}
+
+impl Answer {
+  /// The count, or the refusal.
+  pub fn checked(self, given: Given) -> Result<usize, Refusal> {
+    refusal::check(self.number, self.place, given)?;
+    Ok(self.count)
+  }
+}
+
+#[repr(C)]
+pub struct End {
+  x: i16,
+  y: i16,
+  included: bool,
+}
+
+impl From<End> for EndPoint {
+  fn from(end: End) -> EndPoint {
+    EndPoint { x: end.x, y: end.y, included: end.included }
+  }
+}
+
+#[repr(C)]
+pub struct Met {
+  pub number: u8,
+  pub place: usize,
+  pub meets: u8,
+  pub min: End,
+  pub max: End,
+}
+
+#[repr(C)]
+pub struct Placed {
+  pub number: u8,
+  pub place: usize,
+  pub meets: u8,
+  pub x1: f64,
+  pub y1: f64,
+  pub x2: f64,
+  pub y2: f64,
+}

@@ -1,0 +1,112 @@
+//! Every call, on the scope's examples and on the booster fan.
+
+use std::cmp::Ordering;
+use std::collections::BTreeSet;
+use std::fs;
+use std::path::PathBuf;
+
+use mirtalughe::*;
+
+const FIRST: [i32; 10] = [3, 0, 0, 4, 4, 3, 0, 4, 4, 0];
+
+fn two(first: Piece, second: Piece) -> Vec<i32> {
+  [first, second].concat()
+}
+
+fn example(name: &str) -> Vec<u8> {
+  let folder = PathBuf::from(env!("CARGO_MANIFEST_DIR")).join("../../examples");
+  fs::read(folder.join(name)).unwrap()
+}
+
+#[test]
+fn turns() {
+  assert_eq!(orient([0, 0], [4, 0], [4, 4]), Orientation::CounterClockWise);
+  assert_eq!(orient([0, 0], [4, 4], [4, 0]), Orientation::ClockWise);
+  assert_eq!(orient([0, 0], [2, 2], [4, 4]), Orientation::CoLinear);
+  let (low, high) = (i16::MIN, i16::MAX);
+  assert_eq!(orient([low, low], [high, low], [high, high]), Orientation::CounterClockWise);
+}
+
+#[test]
+fn order_of_points() {
+  let point = |x, y, d| Point { x, y, d };
+  assert_eq!(compare_points(point(2, 2, 3), point(4, 4, 6)), Ordering::Equal);
+  assert_eq!(compare_points(point(2, 9, 3), point(3, 0, 4)), Ordering::Less);
+  assert_eq!(compare_points(point(1, 2, 2), point(2, 3, 4)), Ordering::Greater);
+  let wide = point(i64::MAX, 0, u64::MAX);
+  assert_eq!(compare_points(wide, point(i64::MAX - 1, 0, u64::MAX - 2)), Ordering::Greater);
+}
+
+#[test]
+fn reading() {
+  let file = [2, 3, 0, 0, 8, 8, 3, 0, 8, 8, 0];
+  let mut lent = [-7; LIST_ROOM + 1];
+  assert_eq!(read(&file, &mut lent).unwrap().as_flattened(), FIRST);
+  assert_eq!(lent[..10], FIRST);
+  assert!(lent[10..].iter().all(|v| *v == -7));
+  assert_eq!(read(&[0], &mut lent), Ok(&[][..]));
+}
+
+#[test]
+fn meetings() {
+  assert_eq!(meeting(&FIRST), Ok(Meeting::Crossing));
+  let end = |x, y, included| EndPoint { x, y, included };
+  let touching = two([3, 0, 0, 2, 0], [3, 2, 0, 5, 0]);
+  let (min, max) = (end(2, 0, true), end(2, 0, true));
+  assert_eq!(meeting(&touching), Ok(Meeting::Overlap { min, max }));
+  assert_eq!(meeting(&two([3, 0, 0, 2, 0], [2, 2, 0, 5, 0])), Ok(Meeting::Nothing));
+  let lying_on = two([3, -1, 0, 4, 0], [2, 5, 0, 1, 0]);
+  let (min, max) = (end(1, 0, true), end(4, 0, true));
+  assert_eq!(meeting(&lying_on), Ok(Meeting::Overlap { min, max }));
+  let (min, max) = (end(1, 0, false), end(4, 0, true));
+  assert_eq!(meeting(&two([3, -1, 0, 4, 0], [1, 5, 0, 1, 0])), Ok(Meeting::Overlap { min, max }));
+}
+
+#[test]
+fn places() {
+  let at = |x, y| PlacePoint { x, y };
+  assert_eq!(place(&FIRST), Ok(Place::At(at(2.0, 2.0))));
+  let thirds = two([3, 0, 0, 1, 1], [3, 0, 1, 2, 0]);
+  assert_eq!(place(&thirds), Ok(Place::At(at(2.0 / 3.0, 2.0 / 3.0))));
+  let lying_on = two([3, -1, 0, 4, 0], [3, 5, 0, 1, 0]);
+  assert_eq!(place(&lying_on), Ok(Place::Along(at(1.0, 0.0), at(4.0, 0.0))));
+  assert_eq!(place(&two([3, 0, 0, 4, 0], [2, 2, 0, 3, 5])), Ok(Place::Nothing));
+}
+
+#[test]
+fn all_pairs_of_a_list() {
+  let gap = [[3, 0, 0, 0, 10], [3, -5, 3, 5, 3], [3, -5, 6, 5, 6]].concat();
+  let mut lent = [9; pairs_room(3) + 1];
+  assert_eq!(all_pairs(&gap, &mut lent).unwrap(), [[1, 0], [2, 0]]);
+  assert_eq!(lent[4..], [9; 3]);
+  assert_eq!(all_pairs(&[], &mut []), Ok(&[][..]));
+  assert_eq!((pairs_room(0), pairs_room(1), pairs_room(64)), (0, 0, 4032));
+}
+
+#[test]
+fn most_pieces() {
+  let list: Vec<i32> = (0..64).flat_map(|i| [3, -100, i, 100, 63 - i]).collect();
+  let mut lent = [0; pairs_room(MOST_PIECES)];
+  let pairs = all_pairs(&list, &mut lent).unwrap();
+  assert_eq!(pairs.len(), 64 * 63 / 2);
+  assert_eq!((pairs[0], pairs[2015]), ([1, 0], [63, 62]));
+}
+
+/// The library reads the file that the tool wrote, and finds the pairs that the Rust lists.
+#[test]
+fn booster_fan() {
+  let mut list = [0; LIST_ROOM];
+  let pieces = read(&example("booster_fan.chart"), &mut list).unwrap();
+  assert_eq!(pieces[3], [1, 1500, 500, 3000, 0]);
+  let mut lent = vec![0; pairs_room(pieces.len())];
+  let found = all_pairs(pieces.as_flattened(), &mut lent).unwrap();
+  let found: BTreeSet<Pair> = found.iter().map(|[a, b]| [*b, *a]).collect();
+  let listing = String::from_utf8(example("booster_fan.listing.txt")).unwrap();
+  let pair = |line: &str| {
+    let mut numbers = line.strip_prefix("pair ")?.split(' ').map(|v| v.parse());
+    Some([numbers.next()?.ok()?, numbers.next()?.ok()?])
+  };
+  let listed: BTreeSet<Pair> = listing.lines().filter_map(pair).collect();
+  assert_eq!(listed.len(), 29);
+  assert_eq!(found, listed);
+}

@@ -1,0 +1,105 @@
+//! Every number of the table, from every call that gives it: its place, its text, and lent memory left as it was.
+
+use mirtalughe::*;
+
+const SOUND: Piece = [3, 0, 0, 4, 4];
+const LENGTH: &str = "refused 9: the list's length is not a multiple of five or, for a pair, not ten";
+const ROOM: &str = "refused 8: the lent room is too small";
+
+#[test]
+fn files() {
+  let cut = "refused 1: the file ends inside a number or before one that is due, at byte";
+  let groups = "refused 2: a third group has its high bit set, or the last of several is zero, at byte";
+  let coordinate = "refused 5: a coordinate is outside -32767 to 32767, at byte";
+  let wrong: [(&[u8], Fault, usize, String); 12] = [
+    (&[], Fault::FileCut, 0, format!("{cut} 0")),
+    (&[1, 3, 0], Fault::FileCut, 3, format!("{cut} 3")),
+    (&[1, 3, 0, 0x80], Fault::FileCut, 3, format!("{cut} 3")),
+    (&[1, 3, 0x80, 0], Fault::GroupsWrong, 2, format!("{groups} 2")),
+    (&[1, 3, 0, 0x80, 0x80, 0x80], Fault::GroupsWrong, 3, format!("{groups} 3")),
+    (&[65], Fault::TooManyPieces, 0, "refused 3: the count of pieces is above 64, at byte 0".into()),
+    (&[1, 4], Fault::KindOutside, 1, "refused 4: a kind is outside 0 to 3, at byte 1".into()),
+    (&[1, 3, 0xFF, 0xFF, 3], Fault::CoordinateOutside, 2, format!("{coordinate} 2")),
+    (&[1, 3, 0, 0, 0, 0x80, 0x80, 4], Fault::CoordinateOutside, 5, format!("{coordinate} 5")),
+    (&[1, 3, 2, 4, 2, 4], Fault::NoLength, 1, "refused 6: both ends of a piece are equal, at byte 1".into()),
+    (&[0, 0], Fault::BytesLeft, 1, "refused 7: there are bytes after the last piece, at byte 1".into()),
+    (
+      &[1, 3, 0, 0, 2, 2, 9, 9],
+      Fault::BytesLeft,
+      6,
+      "refused 7: there are bytes after the last piece, at byte 6".into(),
+    ),
+  ];
+  for (file, fault, place, told) in wrong {
+    refused_file(file, LIST_ROOM, fault, place, &told);
+  }
+  for room in [0, LIST_ROOM - 1] {
+    refused_file(&[0], room, Fault::RoomTooSmall, 0, ROOM);
+  }
+}
+
+fn refused_file(file: &[u8], room: usize, fault: Fault, place: usize, told: &str) {
+  let mut lent = vec![-7; room];
+  let refused = read(file, &mut lent).unwrap_err();
+  assert_eq!(refused, Refusal { fault, place, given: Given::File }, "{file:?}");
+  assert_eq!(refused.to_string(), told);
+  assert!(lent.iter().all(|v| *v == -7));
+}
+
+/// Lists that every call on a list refuses, the fault in the second of two pieces.
+fn wrong_lists() -> Vec<(Vec<i32>, Fault, usize, &'static str)> {
+  let with = |piece: Piece| [SOUND, piece].concat();
+  let kind = "refused 4: a kind is outside 0 to 3, in piece 1";
+  let coordinate = "refused 5: a coordinate is outside -32767 to 32767, in piece 1";
+  let equal = "refused 6: both ends of a piece are equal, in piece 1";
+  vec![
+    (with([4, 0, 0, 1, 1]), Fault::KindOutside, 1, kind),
+    (with([-1, 0, 0, 1, 1]), Fault::KindOutside, 1, kind),
+    (with([3, 32_768, 0, 1, 1]), Fault::CoordinateOutside, 1, coordinate),
+    (with([3, 0, 0, 1, -32_768]), Fault::CoordinateOutside, 1, coordinate),
+    (with([3, 5, 6, 5, 6]), Fault::NoLength, 1, equal),
+    (with(SOUND)[..9].to_vec(), Fault::LengthWrong, 0, LENGTH),
+  ]
+}
+
+#[test]
+fn two_pieces() {
+  let lengths = [0, 1, 3].map(|count| ([SOUND; 3][..count].concat(), Fault::LengthWrong, 0, LENGTH));
+  for (list, fault, place, told) in wrong_lists().into_iter().chain(lengths) {
+    let refused = meeting(&list).unwrap_err();
+    assert_eq!(refused, Refusal { fault, place, given: Given::List }, "{list:?}");
+    assert_eq!(refused.to_string(), told);
+    assert_eq!(mirtalughe::place(&list), Err(refused));
+  }
+}
+
+#[test]
+fn lists() {
+  for (list, fault, place, told) in wrong_lists() {
+    refused_list(&list, 2, fault, place, told);
+  }
+  let many = "refused 3: the count of pieces is above 64";
+  refused_list(&[SOUND; 65].concat(), pairs_room(65), Fault::TooManyPieces, 0, many);
+  for (count, room) in [(64, pairs_room(64) - 1), (2, 1), (2, 0)] {
+    refused_list(&[SOUND; 64][..count].concat(), room, Fault::RoomTooSmall, 0, ROOM);
+  }
+}
+
+fn refused_list(list: &[i32], room: usize, fault: Fault, place: usize, told: &str) {
+  let mut lent = vec![9; room];
+  let refused = all_pairs(list, &mut lent).unwrap_err();
+  assert_eq!(refused, Refusal { fault, place, given: Given::List }, "{list:?}");
+  assert_eq!(refused.to_string(), told);
+  assert!(lent.iter().all(|v| *v == 9));
+}
+
+#[test]
+fn numbers() {
+  assert_eq!(Fault::ALL.map(Fault::number), [1, 2, 3, 4, 5, 6, 7, 8, 9]);
+}
+
+#[test]
+fn as_an_error() {
+  let error: Box<dyn std::error::Error> = Box::new(meeting(&[]).unwrap_err());
+  assert_eq!(error.to_string(), LENGTH);
+}
