@@ -8,6 +8,7 @@
 --   a reading and its row                         Files        reads-exactly, by Forth and Back
 --   files and charts; the longest file            Files        reads-file, file-reads, reads-once; Longest
 --   how much of an input decides its reading      Early        decided-early
+--   which numbers a file is refused with           Refusals     refused-few
 --   the count of pieces that were read            Counts       read-most
 -- `Passed`, `Numbers`, `Kept` and `Whole` are what the proofs of the code stand on.
 pub mod Spelling
@@ -24,6 +25,7 @@ pub mod Back
 pub mod Files
 pub mod Longest
 pub mod Early
+pub mod Refusals
 pub mod Counts
 pub mod Examples
 pub mod Kept

@@ -1,0 +1,68 @@
+-- How many pairs and steps a chart can have: a full sweep is over well before the largest budget.
+-- Assumes nothing.
+use mathlib.Core.Path.{_≡_, refl, ap}
+use mathlib.Core.Bool.{true}
+use mathlib.Core.List.{List, [], _∷_, map}
+use mathlib.Core.List.{List·Memᴰ as In}
+use Prim.Native.Nat.{ℕ, _*_, _≤_}
+use native.Mathlib.Omega.{arith}
+use lib.IntN.{ℤ}
+use lib.ListN.{length, length-append, length-map}
+use Rattle.charts.specs.Chart.{most, verdictOf}
+use Rattle.charts.specs.Answer.{room}
+use Rattle.charts.specs.Piece.{pieceAt}
+use Rattle.charts.specs.declared.Verdict.the-variants.{Accepted}
+use Rattle.charts.proofs.Accepted.{accepted-most}
+use Rattle.charts.proofs.Room.{room-more, room-none, room-least}
+use Rattle.sweep.specs.Lists.{Pair, upto, pairs}
+use Rattle.sweep.specs.Chart.{Chart, meets, kind}
+use Rattle.sweep.specs.Sought.{all, meeting}
+use Rattle.sweep.specs.Run.{answer}
+use Rattle.sweep.specs.Ported.{ported}
+use Rattle.sweep.specs.Demand.{AlwaysPromises}
+use Rattle.sweep.proofs.Lists.{keep-fewer}
+use Rattle.sweep.proofs.Pairs.{upto-length}
+use Rattle.sweep.proofs.Occurring.{all-in}
+use Rattle.sweep_arrays.proofs.Distinct.{distinct-fit}
+use Rattle.sweep_geometry.proofs.Promises.{ported-always}
+use Rattle.sweep_geometry.proofs.Accepted.{list-proper}
+use Rattle.listing.specs.Listing.{largest}
+use Rattle.listing.specs.Demand.{SweptToTheEnd}
+
+pairs-length : (l : List ℕ) → 2 * length (pairs l) ≡ room (length l)
+unfolding pairs
+pairs-length [] = omega (arith, room-none)
+pairs-length (i ∷ l) = omega (arith, room-more (length l), length-append (map (λ j. (i, j)) l) (pairs l), length-map {B = Pair} l (λ j. (i, j)), pairs-length l)
+
+most-room : room most ≡ 4032
+unfolding room
+most-room = refl
+
+module _ (list : List ℤ) (n : ℕ) (e : verdictOf list ≡ Accepted n) where
+  abbrev C : Chart
+  C = ported n (pieceAt list)
+
+  pub always : AlwaysPromises C
+  always = ported-always n (pieceAt list) (list-proper list n e)
+
+  all-few : 2 * length (all C) ≤ 4032
+  unfolding all
+  all-few = omega (arith, pairs-length (upto n), ap room (upto-length n), room-least n most (accepted-most list n e), most-room)
+
+  meeting-few : 2 * length (meeting C) ≤ 4032
+  unfolding meeting
+  meeting-few = omega (arith, keep-fewer (λ q. meets (kind C q)) (all C), all-few)
+
+  pub listed-few : (budget : ℕ) → 2 * length ((answer C budget) .listed) ≤ 4032
+  listed-few budget =
+      let within : (q : Pair) → In q ((answer C budget) .listed) → In q (all C) = λ q m. all-in C q ((always .lists-only budget q m) .0) in
+      omega (arith, distinct-fit ((answer C budget) .listed) (all C) (always .lists-once budget) within, all-few)
+
+  pub steps-few : (budget : ℕ) → (answer C budget) .steps ≤ 2144
+  steps-few budget = omega (arith, always .steps-bounded budget, meeting-few, accepted-most list n e)
+
+  ended : (answer C largest) .ended ≡ true
+  ended = always .ends-soon largest (omega (arith, meeting-few, accepted-most list n e))
+
+pub swept-to-the-end : SweptToTheEnd
+swept-to-the-end = ended

@@ -1,0 +1,84 @@
+-- Listings of the scope's charts, and of a file that it refuses, computed.
+-- Assumes nothing.
+use mathlib.Core.Path.{_≡_, refl, ap, _∙_}
+use mathlib.Core.Bool.{true}
+use mathlib.Core.List.{List, [], _∷_}
+use Prim.Native.Nat.{ℕ, _+_}
+use lib.IntN.{ℤ, pos, negsuc}
+use Rattle.fractions.specs.Order.{order}
+use Rattle.fractions.specs.Fraction.{ratioOrder}
+use Rattle.fractions.specs.Divisor.{euclid, gcdOf}
+use Rattle.fractions.specs.Point.{pointOrder, common, lowestOf}
+use Rattle.orientation.specs.Turn.{det, turnOf}
+use Rattle.line_segment.specs.Piece.{pointOf, endOrder, firstIncluded, secondIncluded, joinBy, joinOf, pieceOf}
+use Rattle.line_segment.specs.Geometry.{run, rise, side}
+use Rattle.line_segment.specs.Segment.{leftBy, leftmostOf, rightBy, rightmostOf, within, innerBetween, stretchBy, stretchOf, touchOf, turnTo, opposed, astrideOf, intersectOf, inBounds, containsOf, moment, over, cramerOf, crossingOf}
+use Rattle.charts.specs.Fault.{outside}
+use Rattle.charts.specs.Chart.{numberAt}
+use Rattle.charts.specs.Piece.{kindOf, coordinateOf, pieceAt}
+use Rattle.chart_file.proofs.Examples.{examples}
+use Rattle.place.specs.Place.{alongOf, whereBy, whereOf}
+use Rattle.sweep.specs.Lists.{upto, keep, any, place, sort-into, sort, same-pair, among, pairs, lesser-first, adjacent-from, adjacent}
+use Rattle.sweep.specs.Chart.{meets, same}
+use Rattle.sweep.specs.State.{start}
+use Rattle.sweep.specs.Queue.{ends, beyond, queue, least-from, least, next}
+use Rattle.sweep.specs.Step.{list, each, starts, finishes, turns, takes-part, pieces, report, drop, reported, wait, examine-free, examine, stay, enter, ranged, examined, step}
+use Rattle.sweep.specs.Run.{Answer, move-to, move, onwards, is-none, answer-of, answer}
+use Rattle.sweep.specs.Run.{run as run-of}
+use Rattle.sweep.specs.Ported.{isUpright, heightAbove, heightBelow, heightOrder, slopeOrder, rankOrder, ported}
+use Rattle.decimals.specs.Text.{ascii}
+use Rattle.decimals.specs.Decimal.{digits, decimal, signedDecimal}
+use Rattle.units.specs.Units.{floorOf, nearestUnit}
+use Rattle.listing.specs.Lines.{countLine, completeLine, unitText, pointText, placeText, pairLine, pairLines}
+use Rattle.listing.specs.Listing.{chartLines, largest, chartText, textOf, listingOf}
+use Rattle.listing.proofs.Settled.{settled}
+
+-- the text at a budget of a steps
+textAt : List ℤ → ℕ → ℕ → List ℕ
+textAt list n a = let swept = answer (ported n (pieceAt list)) a in chartLines list n (swept .complete) (swept .listed) (swept .steps)
+
+-- where so many are enough, it is the chart's
+enough : (list : List ℤ) (n a b : ℕ) → largest ≡ a + b → (answer (ported n (pieceAt list)) a) .ended ≡ true → chartText list n ≡ textAt list n a
+unfolding chartText textAt
+enough list n a b e h =
+    let C = ported n (pieceAt list) in
+    ap (λ (swept : Answer C). chartLines list n (swept .complete) (swept .listed) (swept .steps)) (ap (answer C) e ∙ settled C a b h)
+
+-- "(0,0)-(4,4) and (0,4)-(4,0), kind 3"
+two : List ℤ
+two = pos 3 ∷ pos 0 ∷ pos 0 ∷ pos 4 ∷ pos 4 ∷ pos 3 ∷ pos 0 ∷ pos 4 ∷ pos 4 ∷ pos 0 ∷ []
+
+-- "piece 0 (0,0)-(0,10), piece 1 (-5,3)-(5,3), piece 2 (-5,6)-(5,6), kind 3"
+gap : List ℤ
+gap = pos 3 ∷ pos 0 ∷ pos 0 ∷ pos 0 ∷ pos 10 ∷ pos 3 ∷ negsuc 4 ∷ pos 3 ∷ pos 5 ∷ pos 3 ∷ pos 3 ∷ negsuc 4 ∷ pos 6 ∷ pos 5 ∷ pos 6 ∷ []
+
+record Runs : Type 0 where
+  two-ends : (answer (ported 2 (pieceAt two)) 5) .ended ≡ true
+  two-text : textAt two 2 5 ≡ ascii "chart 2\ncomplete yes\npair 0 1 at 2 2\nsteps 5\n"
+  gap-ends : (answer (ported 3 (pieceAt gap)) 7) .ended ≡ true
+  gap-text : textAt gap 3 7 ≡ ascii "chart 3\ncomplete no\npair 0 1 at 0 3\nsteps 7\n"
+  none-ends : (answer (ported 0 (pieceAt [])) 0) .ended ≡ true
+  none-text : textAt [] 0 0 ≡ ascii "chart 0\ncomplete yes\nsteps 0\n"
+  refused : countLine (ascii "refused ") 1 ≡ ascii "refused 1\n"
+
+runs : Runs
+unfolding two gap textAt order ratioOrder euclid gcdOf pointOrder common lowestOf det turnOf pointOf endOrder firstIncluded secondIncluded joinBy joinOf pieceOf run rise side leftBy leftmostOf rightBy rightmostOf within innerBetween stretchBy stretchOf touchOf turnTo opposed astrideOf intersectOf inBounds containsOf moment over cramerOf crossingOf outside numberAt kindOf coordinateOf pieceAt alongOf whereBy whereOf upto keep any place sort-into sort same-pair among pairs lesser-first adjacent-from adjacent meets same start ends beyond queue least-from least next list each starts finishes turns takes-part pieces report drop reported wait examine-free examine stay enter ranged examined step move-to move onwards is-none answer-of answer run-of isUpright heightAbove heightBelow heightOrder slopeOrder rankOrder ascii digits decimal signedDecimal floorOf nearestUnit countLine completeLine unitText pointText placeText pairLine pairLines chartLines
+runs = record { two-ends = refl; two-text = refl; gap-ends = refl; gap-text = refl; none-ends = refl; none-text = refl; refused = refl }
+
+record Table : Type 0 where
+  -- "For bytes 02 03 00 00 08 08 03 00 08 08 00 it prints"
+  crossing : listingOf (0x02 ∷ 0x03 ∷ 0x00 ∷ 0x00 ∷ 0x08 ∷ 0x08 ∷ 0x03 ∷ 0x00 ∷ 0x08 ∷ 0x08 ∷ 0x00 ∷ []) ≡ ascii "chart 2\ncomplete yes\npair 0 1 at 2 2\nsteps 5\n"
+  -- "Upright gap"
+  upright-gap : chartText gap 3 ≡ ascii "chart 3\ncomplete no\npair 0 1 at 0 3\nsteps 7\n"
+  -- "Empty file: 1. File 00: zero pieces."
+  empty : listingOf [] ≡ ascii "refused 1\n"
+  no-pieces : listingOf (0x00 ∷ []) ≡ ascii "chart 0\ncomplete yes\nsteps 0\n"
+
+table : Table
+unfolding two textOf listingOf
+table = record {
+  crossing = ap textOf (examples .crossing) ∙ enough two 2 5 4294967290 refl (runs .two-ends) ∙ runs .two-text;
+  upright-gap = enough gap 3 7 4294967288 refl (runs .gap-ends) ∙ runs .gap-text;
+  empty = ap textOf (examples .empty) ∙ runs .refused;
+  no-pieces = ap textOf (examples .no-pieces) ∙ enough [] 0 0 4294967295 refl (runs .none-ends) ∙ runs .none-text;
+}

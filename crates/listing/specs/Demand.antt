@@ -1,0 +1,26 @@
+-- What is promised of a listing.
+use mathlib.Core.Path.{_≡_}
+use mathlib.Core.Bool.{true}
+use mathlib.Core.List.{List}
+use Prim.Native.Nat.{ℕ, _≤_}
+use lib.IntN.{ℤ}
+use lib.ListN.{length, take}
+use Rattle.charts.specs.Piece.{pieceAt}
+use Rattle.charts.specs.Chart.{verdictOf}
+use Rattle.charts.specs.declared.Verdict.the-variants.{Accepted}
+use Rattle.chart_file.specs.Groups.{Bytes}
+use Rattle.sweep.specs.Run.{answer}
+use Rattle.sweep.specs.Ported.{ported}
+use Rattle.listing.specs.Listing.{largest, listingOf, deciding, longestText}
+
+-- no byte past the first 834 changes the listing, however long the input
+abbrev pub DecidedEarly : Type 0
+DecidedEarly = (file : List ℕ) (k : ℕ) → deciding ≤ k → listingOf (take k file) ≡ listingOf file
+
+-- "steps to the end"
+abbrev pub SweptToTheEnd : Type 0
+SweptToTheEnd = (list : List ℤ) (n : ℕ) → verdictOf list ≡ Accepted n → (answer (ported n (pieceAt list)) largest) .ended ≡ true
+
+-- there is room for every listing
+abbrev pub Fits : Type 0
+Fits = (file : List ℕ) → Bytes file → length (listingOf file) ≤ longestText

@@ -1,0 +1,47 @@
+-- The listing of a chart file: the text that the chart program prints.
+-- Assumes nothing.
+use mathlib.Core.Bool.{Bool}
+use mathlib.Core.List.{List, _++_}
+use Prim.Native.Nat.{ℕ, suc, _+_, _*_, _/_}
+use lib.IntN.{ℤ}
+use lib.ListN.{length}
+use Rattle.charts.specs.Piece.{pieceAt}
+use Rattle.chart_file.specs.Format.{longest}
+use Rattle.chart_file.specs.Reading.{Reading, due, stopped, readingOf}
+use Rattle.sweep.specs.Lists.{Pair}
+use Rattle.sweep.specs.Run.{answer}
+use Rattle.sweep.specs.Ported.{ported}
+use Rattle.decimals.specs.Text.{ascii}
+use Rattle.listing.specs.Lines.{countLine, completeLine, pairLines}
+
+-- "the piece count; no upright piece; per pair in sweep order ..; steps to the end"
+unfoldable pub chartLines : List ℤ → ℕ → Bool → List Pair → ℕ → List ℕ
+chartLines list n complete listed steps =
+    countLine (ascii "chart ") n ++ completeLine complete ++ pairLines list listed ++ countLine (ascii "steps ") steps
+
+-- the largest budget of a sweep, which no chart uses up
+abbrev pub largest : ℕ
+largest = 4294967295
+
+-- of a list of n pieces
+unfoldable pub chartText : List ℤ → ℕ → List ℕ
+chartText list n =
+    let swept = answer (ported n (pieceAt list)) largest in
+    chartLines list n (swept .complete) (swept .listed) (swept .steps)
+
+-- "A refused file prints one line, `refused` and the number."
+unfoldable pub textOf : Reading → List ℕ
+textOf (due list at) = chartText list (length list / 5)
+textOf (stopped number place) = countLine (ascii "refused ") number
+
+unfoldable pub listingOf : List ℕ → List ℕ
+listingOf file = textOf (readingOf file)
+
+-- one byte more than the longest file: so much of an input decides its listing
+abbrev pub deciding : ℕ
+deciding = suc longest
+
+-- the longest text: "chart 64", "complete yes", 2,016 lines such as "pair 62 63 along -32767 -32767 -32766 -32766", and the
+-- steps, of at most ten digits
+abbrev pub longestText : ℕ
+longestText = 9 + 13 + 2016 * 45 + 17
