@@ -1,11 +1,12 @@
-"""The example: its file and its picture are what the tool makes of its text."""
+"""The examples: the fan's file and picture are what the tool makes of its text, and the README shows the C program."""
 import unittest
 from pathlib import Path
 
 import drawing
 from formats import chart_of_text, file_of_chart, listing_of_text
 
-EXAMPLES = Path(__file__).parents[2] / "examples"
+ROOT = Path(__file__).parents[2]
+EXAMPLES = ROOT / "examples"
 
 
 class BoosterFan(unittest.TestCase):
@@ -28,6 +29,13 @@ class BoosterFan(unittest.TestCase):
             before, after = pieces[i].ends()[1], pieces[i + 1].ends()[0]
             self.assertEqual((*before[:2], not before[2]), after)
             self.assertNotIn((i, i + 1), listed)
+
+
+class First(unittest.TestCase):
+    def test_shown_whole(self):
+        """The README shows examples/first.c, all but its head comment."""
+        _, shown = (EXAMPLES / "first.c").read_text().split("*/\n")
+        self.assertIn(f"```c\n{shown}```\n", (ROOT / "README.md").read_text())
 
 
 if __name__ == "__main__":

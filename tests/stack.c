@@ -1,0 +1,83 @@
+/* Prints how many bytes of stack each call takes on the largest charts and files, and fails above 64 KiB. A call runs on
+   a stack that was painted beforehand; what it changed counts, and the caller's few words with it. */
+#include <stdio.h>
+#include <string.h>
+#include <ucontext.h>
+
+#include "mirtalughe.h"
+
+enum { ROOM = 1 << 18, MOST = 1 << 16, PAINT = 0xA5, PIECES = 64, LIST = 5 * PIECES, LONGEST = 833 };
+
+static _Alignas(64) unsigned char stack[ROOM];
+static ucontext_t host, guest;
+static int32_t list[LIST];
+static uint8_t file[LONGEST], pairs[PIECES * (PIECES - 1)];
+static int wrong;
+
+static void nothing(void) {}
+
+static void compare_points(void) {
+    wrong |= mirtalughe_compare_points(INT64_MAX, 0, UINT64_MAX, INT64_MAX - 1, 0, UINT64_MAX - 2) != 1;
+}
+
+static void orient(void) { wrong |= mirtalughe_orient(0, 0, 4, 0, 4, 4) != 1; }
+
+static void read(void) { wrong |= mirtalughe_read(file, LONGEST, list, LIST).count != PIECES; }
+
+static void meeting(void) { wrong |= mirtalughe_meeting(list, 10).meets != 1; }
+
+static void place(void) { wrong |= mirtalughe_place(list, 10).meets != 1; }
+
+static void all_pairs(void) {
+    wrong |= mirtalughe_all_pairs(list, LIST, pairs, sizeof pairs).count != PIECES * (PIECES - 1) / 2;
+}
+
+static size_t taken(void (*call)(void)) {
+    memset(stack, PAINT, ROOM);
+    getcontext(&guest);
+    guest.uc_stack.ss_sp = stack;
+    guest.uc_stack.ss_size = ROOM;
+    guest.uc_link = &host;
+    makecontext(&guest, call, 0);
+    swapcontext(&host, &guest);
+    size_t kept = 0;
+    while (kept < ROOM && stack[kept] == PAINT) kept++;
+    return ROOM - kept;
+}
+
+static uint8_t *put(uint8_t *at, int32_t v) {
+    uint32_t stored = v < 0 ? -2 * v - 1 : 2 * v;
+    for (; stored >= 0x80; stored >>= 7) *at++ = (stored & 0x7f) | 0x80;
+    *at++ = (uint8_t)stored;
+    return at;
+}
+
+/* A file of 64 pieces of which every two cross; every coordinate takes three groups. */
+static void largest(void) {
+    uint8_t *at = file;
+    *at++ = PIECES;
+    for (int32_t i = 0; i < PIECES; i++) {
+        *at++ = 3;
+        at = put(put(put(put(at, -32767), 8200 + 31 * i), 32767), 16000 - 37 * i);
+    }
+    wrong |= at != file + LONGEST;
+}
+
+int main(void) {
+    static const struct {
+        const char *name;
+        void (*call)(void);
+    } calls[] = {
+        {"mirtalughe_read", read},       {"mirtalughe_orient", orient}, {"mirtalughe_compare_points", compare_points},
+        {"mirtalughe_meeting", meeting}, {"mirtalughe_place", place},   {"mirtalughe_all_pairs", all_pairs},
+    };
+    largest();
+    size_t none = taken(nothing), most = 0;
+    for (size_t i = 0; i < sizeof calls / sizeof *calls; i++) {
+        size_t bytes = taken(calls[i].call) - none;
+        if (bytes > most) most = bytes;
+        printf("stack: %s takes %zu bytes\n", calls[i].name, bytes);
+    }
+    if (wrong) puts("stack: a call did not answer as it should");
+    return wrong || most > MOST;
+}
