@@ -3,3 +3,4 @@ pub mod Examinations
 pub mod Assembling
 pub mod Running
 mod Beginning
+mod Answering

@@ -13,6 +13,7 @@ use lib.Dec.{eqb}
 use lib.IntN.{ℤ}
 use lib.ListN.{length, take, drop, length-append, length-map, drop-of-length-le}
 use Rattle.fractions.specs.declared.Point.{Point}
+use Rattle.line_segment.specs.Piece.{HasLength}
 use Rattle.charts.specs.Chart.{most}
 use Rattle.charts.specs.Answer.{room}
 use Rattle.charts.proofs.Room.{room-none, room-more, room-least}
@@ -41,7 +42,8 @@ use Rattle.event_queue.specs.Next.{asNext, nextBy}
 use Rattle.bentley_ottmann.specs.declared.Last.{Last}
 use Rattle.bentley_ottmann.specs.declared.Last.the-variants.{None, At}
 use Rattle.bentley_ottmann.specs.Views.{ledger, sheet}
-use Rattle.bentley_ottmann.specs.Running.{places, asLast, lastAt, Begun, Stopped}
+use Rattle.bentley_ottmann.specs.Swept.{asLast}
+use Rattle.bentley_ottmann.specs.Running.{places, lastAt, Begun, Stopped}
 
 -- ---- the next point
 abbrev pub back : Next → Option Point
@@ -88,30 +90,35 @@ pairs-twice (i ∷ l) =
     let f = length-map {B = Pair} l (λ (j : ℕ). (i, j)) in
     omega (arith, e, f, pairs-twice l, room-more (length l))
 
+-- ---- the arrays agree with the sweep
+module _ (n : ℕ) (table : List ℤ) (bytes : List ℕ) (few : n ≤ most) (long : (i : ℕ) → i < n → HasLength (pieceIn table i)) (lists : room n ≤ length bytes) where
+  twice : length (all (chartIn n table)) + length (all (chartIn n table)) ≡ room n
+  unfolding all
+  twice = pairs-twice (upto n) ∙ ap room (upto-length n)
+
+  pub has-room : Room (chartIn n table) places bytes
+  has-room =
+      let r : room most ≡ 4032 = unfold room in refl in
+      let l = room-least n most few in
+      record { few = few; waits = omega (arith, twice, l, r); lists = omega (arith, flat-length (all (chartIn n table)), twice, lists) }
+
+  pub agrees : (m : ℕ) → Agrees (chartIn n table) (ordered n (pieceIn table) long) places bytes (onwards (chartIn n table) m (start (chartIn n table) places bytes)) (going (chartIn n table) m (begin (chartIn n table)))
+  agrees m = run-agrees (chartIn n table) (ordered n (pieceIn table) long) places bytes has-room m
+
 -- ---- numbers in the arrays
 module _ {n : ℕ} {table : List ℤ} {ends active marks waiting bytes : List ℕ} (B : Begun n table ends active marks waiting bytes) where
   abbrev C : Chart
   C = chartIn n table
 
-  twice : length (all C) + length (all C) ≡ room n
-  unfolding all
-  twice = pairs-twice (upto n) ∙ ap room (upto-length n)
-
-  has-room : Room C places bytes
-  has-room =
-      let r : room most ≡ 4032 = unfold room in refl in
-      let l = room-least n most (B .few) in
-      record { few = B .few; waits = omega (arith, twice, l, r); lists = omega (arith, flat-length (all C), twice, B .lists) }
-
-  agrees : (m : ℕ) → Agrees C (ordered n (pieceIn table) (B .long)) places bytes (onwards C m (start C places bytes)) (going C m (begin C))
-  agrees m = run-agrees C (ordered n (pieceIn table) (B .long)) places bytes has-room m
+  agrees-at : (m : ℕ) → Agrees C (ordered n (pieceIn table) (B .long)) places bytes (onwards C m (start C places bytes)) (going C m (begin C))
+  agrees-at m = agrees n table bytes (B .few) (B .long) (B .lists) m
 
   pub ends-small : (m : ℕ) → AllBelow (2 * most) ((onwards C m (start C places bytes)) .ends)
-  ends-small m e h = omega (arith, (agrees m) .ends-out e h .0, B .few)
+  ends-small m e h = omega (arith, (agrees-at m) .ends-out e h .0, B .few)
 
   pub waiting-small : (m : ℕ) → AllBelow (most * most) ((onwards C m (start C places bytes)) .ledger .waiting)
   waiting-small m c h =
-      let H = (agrees m) .holds in
+      let H = (agrees-at m) .holds in
       let w = Memᴰ·of-map cell ((going C m (begin C)) .marks .waiting) (subst (λ (l : List ℕ). In c l) (H .waiting-is) h) in
       let v = (H .waiting-once) .pieces (w .0) (w .1) in
       rw (← w .2) (cell-small (w .0) (v .0) (omega (arith, v .1, B .few)))

@@ -1,3 +1,4 @@
--- What the sweep's inner contracts cite beside `sweep_arrays`.
+-- What the sweep's call answers (`Swept`), and what its inner contracts cite beside `sweep_arrays` (`Views`, `Running`).
+pub mod Swept
 pub mod Views
 pub mod Running

@@ -2,7 +2,6 @@
 use mathlib.Core.Path.{_≡_}
 use mathlib.Core.Bool.{Bool, cond}
 use mathlib.Core.List.{List, []}
-use mathlib.Core.Option.{Option, none, some}
 use Prim.Native.Nat.{ℕ, _*_, _≤_, _<_}
 use lib.Dec.{eqb}
 use lib.IntN.{ℤ}
@@ -22,14 +21,11 @@ use Rattle.segments.specs.Table.{pieceIn, chartIn}
 use Rattle.bentley_ottmann.specs.declared.Last.{Last}
 use Rattle.bentley_ottmann.specs.declared.Last.the-variants.{None, At}
 use Rattle.bentley_ottmann.specs.declared.run.Stop.{Stop}
+use Rattle.bentley_ottmann.specs.Swept.{asLast}
 
 -- a place for every pair of the largest chart
 abbrev pub places : ℕ
 places = 2016
-
-abbrev pub asLast : Option Point → Last
-asLast none = None
-asLast (some p) = At p
 
 abbrev pub lastAt : ℕ → Point → Last
 lastAt steps p = cond (eqb steps 0) None (At p)

@@ -23,7 +23,13 @@ ghost use mathlib.Core.Option.{Option, some};
 ghost use Prim.Native.Nat.{suc};
 ghost use Rattle.sweep_arrays.specs.Event.{Sheet, step as stepOn};
 ghost use Rattle.bentley_ottmann.specs.Views.{rangedOf, sheet};
+ghost use Rattle.charts.specs.Chart.{verdictOf};
+ghost use Rattle.charts.specs.Answer.{room};
+ghost use Rattle.charts.specs.Piece.{pieceAt};
+ghost use Rattle.charts.specs.declared.Verdict.the-variants.{Accepted};
+ghost use Rattle.bentley_ottmann.specs.Swept.{sweptBy, listedOver, refusedWith, sweepOf, lentAfter};
 use charts::MOST;
+use charts::Verdict;
 use fractions::Point;
 use line_segment::Meeting;
 
@@ -31,6 +37,20 @@ use line_segment::Meeting;
 pub enum Last {
     None,
     At(Point),
+}
+
+// What a sweep returns; `pairs` is the count of those listed.
+pub struct Swept {
+    // 0 where the call is done, else the refusal
+    pub number: u8,
+    pub place: usize,
+    pub pairs: usize,
+    pub steps: u32,
+    // whether the queue is empty
+    pub ended: bool,
+    // whether no piece is upright
+    pub complete: bool,
+    pub last: Last,
 }
 
 // The marks of a pair.
@@ -409,5 +429,51 @@ fn step(
         live: turned.live,
         head: turned.head,
         end: turned.end,
+    }
+}
+
+fn refused(number: u8, place: usize) -> Swept
+    ensures { λ r. ⌜ r ≡ refusedWith number place ⌝ }
+{
+    Swept {
+        number,
+        place,
+        pairs: 0,
+        steps: 0,
+        ended: false,
+        complete: false,
+        last: Last::None,
+    }
+}
+
+// The sweep of an accepted chart.
+fn sweep_pieces(list: &[i32], n: usize, budget: u32, pairs: &mut [u8]) -> Swept
+    requires { ⌜ (verdictOf (now list) ≡ Accepted n) × (room n ≤ length (now pairs)) ⌝ }
+    ensures { λ r. ⌜ (r ≡ sweptBy n (pieceAt (now (list .entry))) budget) × (now (pairs .exit) ≡ listedOver n (pieceAt (now (list .entry))) budget (now (pairs .entry))) ⌝ }
+{
+    let mut table = [0i16; 5 * MOST];
+    segments::fill(list, n, &mut table);
+    let stop = run::run(&table, n, budget, pairs);
+    let complete = charts::no_upright(list, n);
+    let last = stop.last;
+    Swept {
+        number: 0,
+        place: 0,
+        pairs: stop.end / 2,
+        steps: stop.steps,
+        ended: stop.ended,
+        complete,
+        last,
+    }
+}
+
+// Sweeps a chart's pieces from left to right, at most `budget` steps; lists the pairs that it finds to meet, two bytes a
+// pair, the lesser number first.
+pub fn sweep(list: &[i32], budget: u32, pairs: &mut [u8]) -> Swept
+    ensures { λ r. ⌜ (r ≡ sweepOf (now (list .entry)) budget (length (now (pairs .entry)))) × (now (pairs .exit) ≡ lentAfter (now (list .entry)) budget (now (pairs .entry))) ⌝ }
+{
+    match charts::listing_of(list, pairs.len()) {
+        Verdict::Refused(number, place) => refused(number, place),
+        Verdict::Accepted(n) => sweep_pieces(list, n, budget, pairs),
     }
 }

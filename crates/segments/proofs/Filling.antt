@@ -20,9 +20,8 @@ use Rattle.line_segment.specs.Piece.{endOrder, firstIncluded, secondIncluded, j
 use Rattle.charts.specs.Fault.{outside}
 use Rattle.charts.specs.Chart.{numberAt}
 use Rattle.charts.specs.Piece.{pieceAt, kindOf, coordinateOf}
-use Rattle.sweep.specs.Ported.{ported}
 use Rattle.sweep.proofs.Tests.{ask}
-use Rattle.segments.specs.Table.{pieceIn, chartIn}
+use Rattle.segments.specs.Table.{pieceIn}
 use Rattle.segments.specs.Filled.{marksOf, written, filled}
 
 pub all-five :
@@ -202,5 +201,5 @@ module _ (list : List ℤ) (n m : ℕ) (e : length list ≡ 5 * n) (room : 5 * n
       split : (a b : ℕ) → (a < b) ⊎ (b ≤ a)
       split a b = ⊎-elim (λ (t : ltb a b ≡ true). inl (ltb-true a b t)) (λ (t : ltb a b ≡ false). inr (ltb-false a b t)) (ask (ltb a b))
 
-  pub filled-chart : chartIn n (filled list n (replicate m (pos 0))) ≡ ported n (pieceAt list)
-  filled-chart = ap (ported n) (λ k j. filled-piece j k)
+  pub filled-pieces : pieceIn (filled list n (replicate m (pos 0))) ≡ pieceAt list
+  filled-pieces k j = filled-piece j k

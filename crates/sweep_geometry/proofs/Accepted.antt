@@ -7,7 +7,7 @@ use Prim.Native.Nat.{ℕ, _<_}
 use native.Mathlib.Omega.{arith}
 use lib.IntN.{ℤ, negℤ}
 use Rattle.integers.specs.Size.{Small}
-use Rattle.integers.proofs.Order.{≮→≥}
+use Rattle.integers.proofs.Order.{≮→≥, <→≢}
 use Rattle.integers.proofs.Sizes.{small-of}
 use Rattle.fractions.specs.declared.Order.{Order}
 use Rattle.fractions.specs.declared.Order.the-variants.{Less, Equal, Greater}
@@ -25,7 +25,7 @@ use Rattle.charts.specs.Chart.{verdictOf}
 use Rattle.charts.specs.Piece.{coordinateOf, pieceAt, noUpright}
 use Rattle.charts.specs.Piece.{isUpright as upright}
 use Rattle.charts.specs.declared.Verdict.the-variants.{Accepted}
-use Rattle.charts.proofs.Rows.{says-outside, says-eq}
+use Rattle.charts.proofs.Rows.{is-true, is-false, says-outside, says-eq}
 use Rattle.charts.proofs.Accepted.{pieces-have-length}
 use Rattle.charts.proofs.Upright.{upright-found}
 use Rattle.sweep.specs.Chart.{meets, kind}
@@ -60,19 +60,22 @@ pub list-proper : (list : List ℤ) (n : ℕ) → verdictOf list ≡ Accepted n 
 list-proper list n e i h = record { length = pieces-have-length list n i e h; charted = piece-on list i }
 
 -- the two tests for an upright piece
-upright-yes : (s : LineSegment) → isUpright s ≡ true → upright s ≡ true
+pub upright-same : (s : LineSegment) → isUpright s ≡ upright s
 unfolding isUpright upright
-upright-yes s e = go (answer (s .min .x) (s .max .x)) e
+upright-same s = go (answer (s .min .x) (s .max .x))
   where
-    go : {o : Order} → Answer (s .min .x) (s .max .x) o → isEqual o ≡ true → eqZ (s .min .x) (s .max .x) ≡ true
-    go (is-less h) e = clash e refl
-    go (is-equal h) e = ⊎-elim (λ (t : eqZ (s .min .x) (s .max .x) ≡ true). t) (λ (t : eqZ (s .min .x) (s .max .x) ≡ false). absurd (says-eq (s .min .x) (s .max .x) .no t h)) (ask (eqZ (s .min .x) (s .max .x)))
-    go (is-greater h) e = clash e refl
+    no : (a b : ℤ) → ¬ (a ≡ b) → false ≡ eqZ a b
+    no a b d = sym (is-false (says-eq a b) d)
+
+    go : {o : Order} → Answer (s .min .x) (s .max .x) o → isEqual o ≡ eqZ (s .min .x) (s .max .x)
+    go (is-less h) = no (s .min .x) (s .max .x) (<→≢ h)
+    go (is-equal h) = sym (is-true (says-eq (s .min .x) (s .max .x)) h)
+    go (is-greater h) = no (s .min .x) (s .max .x) (λ e. <→≢ h (sym e))
 
 pub list-flat : (list : List ℤ) (n : ℕ) → noUpright list n ≡ true → NoneUpright n (pieceAt list)
 list-flat list n e i h =
     ⊎-elim
-    (λ (t : isUpright (pieceAt list i) ≡ true). clash e (upright-found list i n h (upright-yes (pieceAt list i) t)))
+    (λ (t : isUpright (pieceAt list i) ≡ true). clash e (upright-found list i n h (sym (upright-same (pieceAt list i)) ∙ t)))
     (λ (t : isUpright (pieceAt list i) ≡ false). t)
     (ask (isUpright (pieceAt list i)))
 

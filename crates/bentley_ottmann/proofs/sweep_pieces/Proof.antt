@@ -1,0 +1,44 @@
+-- `bentley_ottmann::sweep_pieces` meets its contract: where the run stops is the sweep's answer.
+use Rattle.charts.proofs.Accepted.{accepted-most}
+use Rattle.bentley_ottmann.proofs.Answering.{its-length, swept}
+use borrow.Author.Needs.{needs}
+use Rattle.bentley_ottmann.proofs.sweep_pieces.Statement.{statement}
+use Rattle.bentley_ottmann.proofs.sweep_pieces.Tie as tie
+
+slice-aggregate-fill : tie.Need-slice-aggregate-fill
+slice-aggregate-fill c = search needs
+
+fill-requires : tie.Need-fill-requires
+fill-requires c κs = accepted-most (c .before .before .args .list .now) (c .before .before .args .n) (c .before .before .pre .0)
+
+slice-aggregate-run : tie.Need-slice-aggregate-run
+slice-aggregate-run c = search needs
+
+run-requires : tie.Need-run-requires
+run-requires c κs =
+    let st = c .before .before .before .before .before .before in
+    let list = st .args .list .now in
+    (accepted-most list (st .args .n) (st .pre .0), its-length list (st .args .n) (st .pre .0) _ (c .before .before .before .fill .ensures), st .pre .1)
+
+no-upright-requires : tie.Need-no-upright-requires
+no-upright-requires c κs = search needs
+
+same-length : tie.Need-same-length
+same-length c = search needs
+
+returns : tie.Need-returns
+returns c =
+    let st = c .before .before .before .before .before .before .before .before .before .before .before in
+    swept (st .args .list .now) (st .args .n) (st .pre .0) _ (c .before .before .before .before .before .before .before .before .fill .ensures) (st .args .pairs .now) (st .pre .1) (st .args .budget) (c .before .before .before .before .run .ensures) (c .before .no-upright .ensures)
+
+pub sweep-pieces-spec : {M : Type 1} → statement M
+sweep-pieces-spec =
+    tie.close
+    (tie.spec
+    slice-aggregate-fill
+    fill-requires
+    slice-aggregate-run
+    run-requires
+    no-upright-requires
+    same-length
+    returns)
