@@ -4,3 +4,4 @@ pub mod Assembling
 pub mod Running
 mod Beginning
 mod Answering
+mod Once

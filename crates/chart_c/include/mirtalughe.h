@@ -8,6 +8,11 @@
 
 #ifdef __cplusplus
 extern "C" {
+/* Sweeps the n pieces of a list from left to right, at most `budget` steps, and lists the pairs that it finds
+   to meet, two bytes a pair, the lesser number first. `lent` is to be at least n(n - 1). Bytes past the last
+   pair keep their values. */
+mirtalughe_swept mirtalughe_sweep(const int32_t *list, size_t length, uint32_t budget, uint8_t *pairs, size_t lent);
+
 #endif
 
 /* A number of the table of refusals, 0 where the call is done; its place; and the count of pieces
@@ -40,6 +45,18 @@ typedef struct {
     uint8_t meets;
     double x1, y1, x2, y2;
 } mirtalughe_placed;
+
+/* What a sweep says: the count of pairs listed, the steps done, whether the queue is empty, whether no piece
+   is upright, and, where `visited`, the last point x/d, y/d. Values that are not in use are zero. */
+typedef struct {
+    uint8_t number;
+    size_t place;
+    size_t pairs;
+    uint32_t steps;
+    bool ended, complete, visited;
+    int64_t x, y;
+    uint64_t d;
+} mirtalughe_swept;
 
 /* Which way the three points turn: 1 counter-clockwise, -1 clockwise, 0 not at all. */
 int8_t mirtalughe_orient(int16_t x1, int16_t y1, int16_t x2, int16_t y2, int16_t x3, int16_t y3);

@@ -1,3 +1,4 @@
 pub mod Numbers
 pub mod Meetings
 pub mod Places
+pub mod Sweeps

@@ -7,9 +7,14 @@ ghost use Rattle.charts.specs.Pair.{meetingOf};
 ghost use Rattle.place.specs.Pair.{placeAnswerOf};
 ghost use Rattle.chart_file.specs.Reading.{Reads};
 ghost use Rattle.naive.specs.AllPairs.{allPairsOf, lentAfter};
+ghost use Rattle.bentley_ottmann.specs.Swept.{sweepOf};
+ghost use Rattle.bentley_ottmann.specs.Swept.{lentAfter as sweptAfter};
+ghost use Rattle.chart_c.specs.Sweeps.{sweptAs, sweptFields};
 ghost use Rattle.chart_c.specs.Numbers.{turnNumber, orderNumber, pointOf};
 ghost use Rattle.chart_c.specs.Meetings.{noEnd, endFields, metAs, fieldsOf};
 ghost use Rattle.chart_c.specs.Places.{placedAs, placedOf};
+use bentley_ottmann::Last;
+use bentley_ottmann::Swept;
 use charts::Answer;
 use fractions::Order;
 use fractions::Point;
@@ -47,6 +52,21 @@ pub struct Placed {
     pub y1: f64,
     pub x2: f64,
     pub y2: f64,
+}
+
+// What a sweep returns; where `visited`, the last point is x/d, y/d.
+#[repr(C)]
+pub struct SweptFields {
+    pub number: u8,
+    pub place: usize,
+    pub pairs: usize,
+    pub steps: u32,
+    pub ended: bool,
+    pub complete: bool,
+    pub visited: bool,
+    pub x: i64,
+    pub y: i64,
+    pub d: u64,
 }
 
 // Which way the three points turn, as its number.
@@ -206,4 +226,45 @@ pub extern "C" fn mirtalughe_all_pairs(list: &[i32], pairs: &mut [u8]) -> Answer
     ensures { λ r. ⌜ (r ≡ allPairsOf (now (list .entry)) (length (now (pairs .entry)))) × (now (pairs .exit) ≡ lentAfter (now (list .entry)) (now (pairs .entry))) ⌝ }
 {
     naive::all_pairs(list, pairs)
+}
+
+fn swept_fields(s: Swept, last: Last) -> SweptFields
+    ensures { λ r. ⌜ r ≡ sweptAs s last ⌝ }
+{
+    match last {
+        Last::None => SweptFields {
+            number: s.number,
+            place: s.place,
+            pairs: s.pairs,
+            steps: s.steps,
+            ended: s.ended,
+            complete: s.complete,
+            visited: false,
+            x: 0,
+            y: 0,
+            d: 0,
+        },
+        Last::At(p) => SweptFields {
+            number: s.number,
+            place: s.place,
+            pairs: s.pairs,
+            steps: s.steps,
+            ended: s.ended,
+            complete: s.complete,
+            visited: true,
+            x: p.x,
+            y: p.y,
+            d: p.d,
+        },
+    }
+}
+
+// Sweeps a chart's pieces, at most `budget` steps.
+#[no_mangle]
+pub extern "C" fn mirtalughe_sweep(list: &[i32], budget: u32, pairs: &mut [u8]) -> SweptFields
+    ensures { λ r. ⌜ (r ≡ sweptFields (sweepOf (now (list .entry)) budget (length (now (pairs .entry))))) × (now (pairs .exit) ≡ sweptAfter (now (list .entry)) budget (now (pairs .entry))) ⌝ }
+{
+    let swept = bentley_ottmann::sweep(list, budget, pairs);
+    let last = swept.last;
+    swept_fields(swept, last)
 }
