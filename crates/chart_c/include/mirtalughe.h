@@ -8,11 +8,6 @@
 
 #ifdef __cplusplus
 extern "C" {
-/* Sweeps the n pieces of a list from left to right, at most `budget` steps, and lists the pairs that it finds
-   to meet, two bytes a pair, the lesser number first. `lent` is to be at least n(n - 1). Bytes past the last
-   pair keep their values. */
-mirtalughe_swept mirtalughe_sweep(const int32_t *list, size_t length, uint32_t budget, uint8_t *pairs, size_t lent);
-
 #endif
 
 /* A number of the table of refusals, 0 where the call is done; its place; and the count of pieces
@@ -78,6 +73,11 @@ mirtalughe_placed mirtalughe_place(const int32_t *list, size_t length);
 /* Every pair of the n pieces of a list that meet, two bytes a pair: for a from 0, for b below a. `lent` is
    to be at least n(n - 1). Bytes past the last pair keep their values. */
 mirtalughe_answer mirtalughe_all_pairs(const int32_t *list, size_t length, uint8_t *pairs, size_t lent);
+
+/* Sweeps the n pieces of a list from left to right, at most `budget` steps, and lists the pairs that it finds
+   to meet, two bytes a pair, the lesser number first. `lent` is to be at least n(n - 1). Bytes past the last
+   pair keep their values. */
+mirtalughe_swept mirtalughe_sweep(const int32_t *list, size_t length, uint32_t budget, uint8_t *pairs, size_t lent);
 
 #ifdef __cplusplus
 }
