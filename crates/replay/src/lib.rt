@@ -3,6 +3,7 @@
 mod meeting;
 mod pairs;
 mod places;
+mod stops;
 mod text;
 
 use libc::STDIN_FILENO;
@@ -13,6 +14,7 @@ pub enum Asked {
     Meeting,
     Place,
     AllPairs,
+    Stops,
 }
 
 fn answer(asked: Asked, list: &[i32]) {
@@ -21,6 +23,7 @@ fn answer(asked: Asked, list: &[i32]) {
         Asked::Meeting => meeting::write(list),
         Asked::Place => places::write(list),
         Asked::AllPairs => pairs::write(list),
+        Asked::Stops => stops::write(list),
     }
 }
 

@@ -16,9 +16,7 @@ fn write_end(e: EndPoint) {
 
 fn write_crossing(list: &[i32]) {
     let p = line_segment::crossing(charts::piece_at(list, 0), charts::piece_at(list, 1));
-    text::signed(b"crossing ", p.x);
-    text::signed(b" ", p.y);
-    text::number(b" ", p.d);
+    text::point(b"crossing ", p);
     text::words(b"\n");
 }
 

@@ -1,4 +1,5 @@
 // Words and numbers on standard output.
+use fractions::Point;
 use libc::STDOUT_FILENO;
 
 pub fn words(bytes: &[u8]) {
@@ -16,6 +17,22 @@ pub fn signed(before: &[u8], v: i64) {
         words(b"-");
     }
     io::print_decimal(STDOUT_FILENO, integers::size(v));
+}
+
+// A point as X, Y, D.
+pub fn point(before: &[u8], p: Point) {
+    signed(before, p.x);
+    signed(b" ", p.y);
+    number(b" ", p.d);
+}
+
+pub fn yes_or_no(before: &[u8], yes: bool) {
+    words(before);
+    if yes {
+        words(b"yes");
+    } else {
+        words(b"no");
+    }
 }
 
 // The 16 hexadecimal digits of a binary64.

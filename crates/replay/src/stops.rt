@@ -1,0 +1,50 @@
+// Where each budget stops the sweep of a chart, from none to that of its last step, and the whole list.
+use crate::text;
+use bentley_ottmann::Last;
+use bentley_ottmann::Swept;
+use charts::MOST;
+
+fn write_stop(swept: Swept) {
+    text::number(b"", swept.steps as u64);
+    text::number(b" listed ", swept.pairs as u64);
+    text::yes_or_no(b" ended ", swept.ended);
+    let last = swept.last;
+    match last {
+        Last::None => {
+            text::words(b" none");
+        }
+        Last::At(p) => {
+            text::point(b" at ", p);
+        }
+    }
+    text::words(b"\n");
+}
+
+// Writes one stop, and answers whether the queue is empty there.
+fn stop_at(list: &[i32], budget: u32, bytes: &mut [u8]) -> bool {
+    let swept = bentley_ottmann::sweep(list, budget, bytes);
+    write_stop(swept);
+    swept.ended
+}
+
+fn write_stops(list: &[i32], bytes: &mut [u8]) {
+    let mut budget = 0;
+    while budget < u32::MAX && !stop_at(list, budget, bytes) {
+        budget += 1;
+    }
+}
+
+pub fn write(list: &[i32]) {
+    let mut bytes = [0u8; MOST * (MOST - 1)];
+    let swept = bentley_ottmann::sweep(list, u32::MAX, &mut bytes);
+    if swept.number == 0 {
+        text::number(b"chart ", (list.len() / 5) as u64);
+        text::yes_or_no(b" complete ", swept.complete);
+        text::words(b"\n");
+        write_stops(list, &mut bytes);
+        text::words(b"list");
+        text::pairs(&bytes, swept.pairs);
+    } else {
+        text::refusal(swept.number, swept.place);
+    }
+}
