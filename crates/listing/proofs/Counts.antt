@@ -45,9 +45,12 @@ module _ (list : List ℤ) (n : ℕ) (e : verdictOf list ≡ Accepted n) where
   pub always : AlwaysPromises C
   always = ported-always n (pieceAt list) (list-proper list n e)
 
+  pub room-few : room n ≤ 4032
+  room-few = omega (arith, room-least n most (accepted-most list n e), most-room)
+
   all-few : 2 * length (all C) ≤ 4032
   unfolding all
-  all-few = omega (arith, pairs-length (upto n), ap room (upto-length n), room-least n most (accepted-most list n e), most-room)
+  all-few = omega (arith, pairs-length (upto n), ap room (upto-length n), room-few)
 
   meeting-few : 2 * length (meeting C) ≤ 4032
   unfolding meeting

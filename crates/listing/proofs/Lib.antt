@@ -8,5 +8,9 @@ pub mod Counts
 pub mod Settled
 pub mod Room
 pub mod Early
+pub mod Sweeps
+pub mod Reader
+pub mod Outcomes
+pub mod Once
 mod Examples
 mod Worked

@@ -1,11 +1,14 @@
 -- The listing of a chart file: the text that the chart program prints.
 -- Assumes nothing.
-use mathlib.Core.Bool.{Bool}
+use mathlib.Core.Bool.{Bool, cond}
 use mathlib.Core.List.{List, _++_}
 use Prim.Native.Nat.{ℕ, suc, _+_, _*_, _/_}
+use lib.Dec.{ltb}
 use lib.IntN.{ℤ}
-use lib.ListN.{length}
+use lib.ListN.{length, drop}
 use Rattle.charts.specs.Piece.{pieceAt}
+use Rattle.charts.specs.Answer.{doneWith, refusedWith}
+use Rattle.charts.specs.declared.Answer.{Answer}
 use Rattle.chart_file.specs.Format.{longest}
 use Rattle.chart_file.specs.Reading.{Reading, due, stopped, readingOf}
 use Rattle.sweep.specs.Lists.{Pair}
@@ -45,3 +48,13 @@ deciding = suc longest
 -- steps, of at most ten digits
 abbrev pub longestText : ℕ
 longestText = 9 + 13 + 2016 * 45 + 17
+
+-- ---- the call on lent bytes
+
+-- "8: lent room too small"; done, the count of bytes
+unfoldable pub listingAnswer : List ℕ → ℕ → Answer
+listingAnswer file lent = cond (ltb lent longestText) (refusedWith 8 0) (doneWith (length (listingOf file)))
+
+-- bytes past the text keep their values, and a refusal writes nothing
+unfoldable pub lentAfter : List ℕ → List ℕ → List ℕ
+lentAfter file lent = cond (ltb (length lent) longestText) lent (listingOf file ++ drop (length (listingOf file)) lent)

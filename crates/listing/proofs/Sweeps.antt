@@ -1,0 +1,59 @@
+-- What a full sweep of an accepted list answers, and the pairs in front of the lent bytes.
+-- Assumes nothing.
+use mathlib.Core.Path.{_≡_, refl, ap, _∙_}
+use mathlib.Core.List.{List, [], _∷_}
+use Prim.Native.Nat.{ℕ, _*_, _≤_}
+use native.Mathlib.Omega.{arith}
+use lib.IntN.{ℤ}
+use lib.ListN.{length, take, drop}
+use lib.Seq.{take-at}
+use borrow.Author.Tests.{le-ltb}
+use Rattle.charts.specs.Chart.{verdictOf}
+use Rattle.charts.specs.Answer.{room}
+use Rattle.charts.specs.Answer.{listingOf as verdictFor}
+use Rattle.charts.specs.Piece.{pieceAt}
+use Rattle.charts.specs.declared.Verdict.the-variants.{Accepted}
+use Rattle.naive.specs.Pairs.{bytes, over}
+use Rattle.naive.proofs.Rows.{bytes-length}
+use Rattle.sweep.specs.Lists.{Pair}
+use Rattle.sweep.specs.Run.{answer}
+use Rattle.sweep.specs.Ported.{ported}
+use Rattle.bentley_ottmann.specs.declared.Swept.{Swept}
+use Rattle.bentley_ottmann.specs.Swept.{saying, sweptBy, listedOver, sweepOf, lentAfter}
+use Rattle.listing.specs.Lines.{pairsIn}
+use Rattle.listing.specs.Listing.{chartLines, largest, chartText}
+use Rattle.listing.proofs.Counts.{room-few, listed-few}
+
+pub pairs-again : (ps : List Pair) → pairsIn (bytes ps) ≡ ps
+unfolding pairsIn bytes
+pairs-again [] = refl
+pairs-again (p ∷ ps) = ap (λ (l : List Pair). p ∷ l) (pairs-again ps)
+
+-- what was answered and left is what the listing prints
+pub record Listed (list : List ℤ) (n : ℕ) (r : Swept) (after : List ℕ) : Type 0 where
+  pub few : 2 * r .pairs ≤ 4032
+  pub text : chartLines list n (r .complete) (pairsIn (take (2 * r .pairs) after)) (r .steps) ≡ chartText list n
+
+module _ (list : List ℤ) (n : ℕ) (e : verdictOf list ≡ Accepted n) (lent : List ℕ) (l : length lent ≡ 4032) where
+  goes : verdictFor list (length lent) ≡ Accepted n
+  unfolding verdictFor
+  goes = rw (e, l, le-ltb 4032 (room n) (room-few list n e))
+
+  swept-is : sweepOf list largest (length lent) ≡ saying n (pieceAt list) (answer (ported n (pieceAt list)) largest)
+  unfolding sweepOf sweptBy
+  swept-is = rw goes
+
+  listed-are : (ps : List Pair) → pairsIn (take (2 * length ps) (over (bytes ps) lent)) ≡ ps
+  unfolding over
+  listed-are ps = rw (take-at (bytes ps) (drop (length (bytes ps)) lent) (2 * length ps) (bytes-length ps ∙ omega arith)) (pairs-again ps)
+
+  pairs-are : let ps = (answer (ported n (pieceAt list)) largest) .listed in pairsIn (take (2 * length ps) (lentAfter list largest lent)) ≡ ps
+  unfolding lentAfter listedOver
+  pairs-are = rw goes (listed-are ((answer (ported n (pieceAt list)) largest) .listed))
+
+  pub full-sweep : (r : Swept) (after : List ℕ) → r ≡ sweepOf list largest (length lent) → after ≡ lentAfter list largest lent → Listed list n r after
+  unfolding chartText
+  full-sweep r after h k =
+      let a = answer (ported n (pieceAt list)) largest in
+      rw (h ∙ swept-is, k)
+      (record { few = listed-few list n e largest; text = ap (λ (ps : List Pair). chartLines list n (a .complete) ps (a .steps)) pairs-are })
