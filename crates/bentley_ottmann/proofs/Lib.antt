@@ -1,6 +1,5 @@
-pub mod Reports
-pub mod Examinations
-pub mod Assembling
+-- `Running`: the arrays are the sheet after each step; `Beginning`: as a run begins with them; `Answering`: what a run tells is
+-- the sweep's answer; `Once`: one outcome.
 pub mod Running
 mod Beginning
 mod Answering

@@ -41,7 +41,7 @@ use Rattle.event_queue.specs.declared.Next.the-variants.{At as NextAt}
 use Rattle.event_queue.specs.Next.{asNext, nextBy}
 use Rattle.bentley_ottmann.specs.declared.Last.{Last}
 use Rattle.bentley_ottmann.specs.declared.Last.the-variants.{None, At}
-use Rattle.bentley_ottmann.specs.Views.{ledger, sheet}
+use Rattle.visit.specs.Views.{ledger, sheet}
 use Rattle.bentley_ottmann.specs.Swept.{asLast}
 use Rattle.bentley_ottmann.specs.Running.{places, lastAt, Begun, Stopped}
 

@@ -1,4 +1,3 @@
--- What the sweep's call answers (`Swept`), and what its inner contracts cite beside `sweep_arrays` (`Views`, `Running`).
+-- What the sweep's call answers (`Swept`), and what its run tells (`Running`).
 pub mod Swept
-pub mod Views
 pub mod Running

@@ -11,10 +11,10 @@ ghost use Rattle.segments.specs.Table.{pieceIn, chartIn};
 ghost use Rattle.sweep_arrays.specs.Run.{next-by, onwards, start};
 ghost use Rattle.bentley_ottmann.specs.Running.{places, lastAt, Begun, Stopped};
 use crate::Last;
-use crate::step;
 use charts::MOST;
 use event_queue::Next;
 use fractions::Point;
+use visit::step;
 
 // A place for every pair.
 const PLACES: usize = MOST * (MOST - 1) / 2;

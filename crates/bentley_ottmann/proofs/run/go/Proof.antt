@@ -6,12 +6,6 @@ use native.Mathlib.Omega.{arith}
 use Rattle.bentley_ottmann.proofs.Running.{Going, begins, ends-left, waiting-left, spent-all, ran-out, advances}
 use Rattle.bentley_ottmann.proofs.run.go.Statement.{statement}
 use Rattle.bentley_ottmann.proofs.run.go.Tie as tie
-use Rattle.bentley_ottmann.proofs.run.go.Reads as reads
-use Rattle.bentley_ottmann.proofs.run.go.Lts as lts
-use Rattle.bentley_ottmann.proofs.run.is_empty.Reads as is-empty-reads
-use Rattle.bentley_ottmann.proofs.run.last_at.Reads as last-at-reads
-use Rattle.bentley_ottmann.proofs.step.Reads as step-reads
-use Rattle.event_queue.proofs.next_point.Reads as next-point-reads
 
 abbrev Inv-loop : tie.InvT-loop
 Inv-loop table ends budget active₀ marks₀ waiting₀ bytes₀ passed₀ live₀ head₀ end₀ steps₀ last₀ active marks waiting bytes passed live head end steps last =
