@@ -1,5 +1,5 @@
-/* Prints how many bytes of stack each call takes on the largest charts and files, and fails above 64 KiB. A call runs on
-   a stack that was painted beforehand; what it changed counts, and the caller's few words with it. */
+/* Prints how many bytes of stack each call takes on the largest chart and its file, and fails above 64 KiB. A call runs
+   on a stack that was painted beforehand; what it changed counts, and the caller's few words with it. */
 #include <stdio.h>
 #include <string.h>
 #include <ucontext.h>
@@ -30,6 +30,10 @@ static void place(void) { wrong |= mirtalughe_place(list, 10).meets != 1; }
 
 static void all_pairs(void) {
     wrong |= mirtalughe_all_pairs(list, LIST, pairs, sizeof pairs).count != PIECES * (PIECES - 1) / 2;
+}
+
+static void sweep(void) {
+    wrong |= mirtalughe_sweep(list, LIST, UINT32_MAX, pairs, sizeof pairs).pairs != PIECES * (PIECES - 1) / 2;
 }
 
 static size_t taken(void (*call)(void)) {
@@ -70,6 +74,7 @@ int main(void) {
     } calls[] = {
         {"mirtalughe_read", read},       {"mirtalughe_orient", orient}, {"mirtalughe_compare_points", compare_points},
         {"mirtalughe_meeting", meeting}, {"mirtalughe_place", place},   {"mirtalughe_all_pairs", all_pairs},
+        {"mirtalughe_sweep", sweep},
     };
     largest();
     size_t none = taken(nothing), most = 0;

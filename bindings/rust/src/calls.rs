@@ -11,6 +11,8 @@ unsafe extern "C" {
   pub fn mirtalughe_meeting(list: *const i32, length: usize) -> Met;
   pub fn mirtalughe_place(list: *const i32, length: usize) -> Placed;
   pub fn mirtalughe_all_pairs(list: *const i32, length: usize, pairs: *mut u8, lent: usize) -> Answer;
+  pub fn mirtalughe_sweep(list: *const i32, length: usize, budget: u32, pairs: *mut u8, lent: usize)
+  -> Swept;
 }
 
 #[repr(C)]
@@ -59,4 +61,18 @@ pub struct Placed {
   pub y1: f64,
   pub x2: f64,
   pub y2: f64,
+}
+
+#[repr(C)]
+pub struct Swept {
+  pub number: u8,
+  pub place: usize,
+  pub pairs: usize,
+  pub steps: u32,
+  pub ended: bool,
+  pub complete: bool,
+  pub visited: bool,
+  pub x: i64,
+  pub y: i64,
+  pub d: u64,
 }

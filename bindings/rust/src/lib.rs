@@ -4,11 +4,11 @@
 //! if the second is. Coordinates run from -32,767 to 32,767, and a chart has at most 64 pieces.
 //!
 //! ```
-//! use mirtalughe::{Place, PlacePoint, all_pairs, place};
+//! use mirtalughe::{Place, PlacePoint, place, sweep};
 //!
 //! let list = [3, 0, 0, 4, 4, 3, 0, 4, 4, 0];
 //! let mut lent = [0; 2];
-//! assert_eq!(all_pairs(&list, &mut lent)?, [[1, 0]]);
+//! assert_eq!(sweep(&list, u32::MAX, &mut lent)?.pairs, [[0, 1]]);
 //! assert_eq!(place(&list)?, Place::At(PlacePoint { x: 2.0, y: 2.0 }));
 //! # Ok::<(), mirtalughe::Refusal>(())
 //! ```
@@ -85,6 +85,19 @@ pub enum Place {
   Along(PlacePoint, PlacePoint),
 }
 
+/// What a sweep has found: the pairs listed so far, the lesser number first, in the order in which they were listed.
+#[derive(Clone, Copy, PartialEq, Eq, Debug)]
+pub struct Swept<'a> {
+  pub pairs: &'a [Pair],
+  pub steps: u32,
+  /// Whether no point is left to visit.
+  pub ended: bool,
+  /// Whether no piece is upright. A sweep that has ended has then listed every pair that meets.
+  pub complete: bool,
+  /// The last point visited.
+  pub last: Option<Point>,
+}
+
 /// Which way the points p, q, r, each x and y, turn.
 pub fn orient(p: [i16; 2], q: [i16; 2], r: [i16; 2]) -> Orientation {
   match calls::mirtalughe_orient(p[0], p[1], q[0], q[1], r[0], r[1]) {
@@ -100,8 +113,8 @@ pub fn compare_points(p: Point, q: Point) -> Ordering {
   calls::mirtalughe_compare_points(p.x, p.y, p.d, q.x, q.y, q.d).cmp(&0)
 }
 
-/// Reads a chart file into a lent list and returns its pieces. At least [`LIST_ROOM`] numbers are to be lent; those past
-/// the last piece keep their values.
+/// Reads a chart file into a lent list and returns its pieces. At least [`LIST_ROOM`] numbers are to be lent; those
+/// past the last piece keep their values.
 pub fn read<'a>(file: &[u8], lent: &'a mut [i32]) -> Result<&'a [Piece], Refusal> {
   // SAFETY: both pointers are good for their lengths, and the lent list is borrowed alone.
   let answer = unsafe { calls::mirtalughe_read(file.as_ptr(), file.len(), lent.as_mut_ptr(), lent.len()) };
@@ -145,4 +158,21 @@ pub fn all_pairs<'a>(list: &[i32], lent: &'a mut [u8]) -> Result<&'a [Pair], Ref
     unsafe { calls::mirtalughe_all_pairs(list.as_ptr(), list.len(), lent.as_mut_ptr(), lent.len()) };
   let count = answer.checked(Given::List)?;
   Ok(&lent.as_chunks().0[..count])
+}
+
+/// Sweeps a chart's pieces from left to right for at most `budget` steps, a visited point each, and lists pairs that
+/// meet in lent bytes, by their first common point. At least [`pairs_room`] of its pieces is to be lent; bytes past the
+/// last pair keep their values.
+pub fn sweep<'a>(list: &[i32], budget: u32, lent: &'a mut [u8]) -> Result<Swept<'a>, Refusal> {
+  // SAFETY: both pointers are good for their lengths, and the lent bytes are borrowed alone.
+  let swept =
+    unsafe { calls::mirtalughe_sweep(list.as_ptr(), list.len(), budget, lent.as_mut_ptr(), lent.len()) };
+  refusal::check(swept.number, swept.place, Given::List)?;
+  Ok(Swept {
+    pairs: &lent.as_chunks().0[..swept.pairs],
+    steps: swept.steps,
+    ended: swept.ended,
+    complete: swept.complete,
+    last: swept.visited.then_some(Point { x: swept.x, y: swept.y, d: swept.d }),
+  })
 }

@@ -92,21 +92,57 @@ fn most_pieces() {
   assert_eq!((pairs[0], pairs[2015]), ([1, 0], [63, 62]));
 }
 
-/// The library reads the file that the tool wrote, and finds the pairs that the Rust lists.
+/// "the points visited are (0,0) (0,4) (2,2) (4,0) (4,4). Budget 2 lists nothing, 3 lists (0,1)."
+#[test]
+fn sweep_step_by_step() {
+  let visited = [(0, 0), (0, 4), (2, 2), (4, 0), (4, 4)];
+  for budget in 0..=6 {
+    let mut lent = [9; 3];
+    let swept = sweep(&FIRST, budget, &mut lent).unwrap();
+    let steps = budget.min(5);
+    let last = steps.checked_sub(1).map(|i| visited[i as usize]).map(|(x, y)| Point { x, y, d: 1 });
+    let pairs: &[Pair] = if budget < 3 { &[] } else { &[[0, 1]] };
+    assert_eq!(swept, Swept { pairs, steps, ended: budget >= 5, complete: true, last });
+    assert_eq!(lent, if budget < 3 { [9; 3] } else { [0, 1, 9] });
+  }
+}
+
+#[test]
+fn sweep_of_a_fraction_and_of_nothing() {
+  let mut lent = [0; 2];
+  let thirds = two([3, 0, 0, 1, 1], [3, 0, 1, 2, 0]);
+  assert_eq!(sweep(&thirds, 3, &mut lent).unwrap().last, Some(Point { x: 2, y: 2, d: 3 }));
+  let none = Swept { pairs: &[], steps: 0, ended: true, complete: true, last: None };
+  assert_eq!(sweep(&[], 0, &mut []), Ok(none));
+}
+
+/// The upright gap: the sweep, as in the Rust, lists only one of the two pairs that meet, and says so.
+#[test]
+fn sweep_with_an_upright_piece() {
+  let gap = [[3, 0, 0, 0, 10], [3, -5, 3, 5, 3], [3, -5, 6, 5, 6]].concat();
+  let mut lent = [0; pairs_room(3)];
+  let swept = sweep(&gap, u32::MAX, &mut lent).unwrap();
+  let last = Some(Point { x: 5, y: 6, d: 1 });
+  assert_eq!(swept, Swept { pairs: &[[0, 1]], steps: 7, ended: true, complete: false, last });
+}
+
+/// The library reads the file that the tool wrote, and lists the pairs that the Rust lists.
 #[test]
 fn booster_fan() {
   let mut list = [0; LIST_ROOM];
   let pieces = read(&example("booster_fan.chart"), &mut list).unwrap();
   assert_eq!(pieces[3], [1, 1500, 500, 3000, 0]);
-  let mut lent = vec![0; pairs_room(pieces.len())];
-  let found = all_pairs(pieces.as_flattened(), &mut lent).unwrap();
-  let found: BTreeSet<Pair> = found.iter().map(|[a, b]| [*b, *a]).collect();
+  let list = pieces.as_flattened();
   let listing = String::from_utf8(example("booster_fan.listing.txt")).unwrap();
   let pair = |line: &str| {
     let mut numbers = line.strip_prefix("pair ")?.split(' ').map(|v| v.parse());
     Some([numbers.next()?.ok()?, numbers.next()?.ok()?])
   };
-  let listed: BTreeSet<Pair> = listing.lines().filter_map(pair).collect();
+  let listed: Vec<Pair> = listing.lines().filter_map(pair).collect();
   assert_eq!(listed.len(), 29);
-  assert_eq!(found, listed);
+  let mut lent = vec![0; pairs_room(pieces.len())];
+  let swept = sweep(list, u32::MAX, &mut lent).unwrap();
+  assert_eq!((swept.pairs, swept.steps, swept.complete), (&listed[..], 45, true));
+  let found = all_pairs(list, &mut lent).unwrap().iter().map(|[a, b]| [*b, *a]);
+  assert_eq!(found.collect::<BTreeSet<Pair>>(), listed.into_iter().collect());
 }

@@ -90,6 +90,7 @@ fn refused_list(list: &[i32], room: usize, fault: Fault, place: usize, told: &st
   let refused = all_pairs(list, &mut lent).unwrap_err();
   assert_eq!(refused, Refusal { fault, place, given: Given::List }, "{list:?}");
   assert_eq!(refused.to_string(), told);
+  assert_eq!(sweep(list, u32::MAX, &mut lent), Err(refused));
   assert!(lent.iter().all(|v| *v == 9));
 }
 
