@@ -1,7 +1,7 @@
 //! Holds the published Rust, this library and a plain model against each other, chart by chart.
 //!
 //!   compare gate               the fixed charts
-//!   compare long SEED COUNT    COUNT random charts of each temper from SEED
+//!   compare long SEED COUNT    those kept by hand, and COUNT random charts of each temper from SEED
 //!   compare record FOLDER      writes the Rust's answers on a fixed sample
 //!   compare listing FILE       what the Rust lists of a chart file, as the chart program's text
 //!   compare bench PLAIN        how long calls take, beside the Rust and the program PLAIN
@@ -14,6 +14,7 @@ mod file;
 mod files;
 mod half_line;
 mod kept;
+mod lent;
 mod library;
 mod model;
 mod model_sweep;
@@ -27,6 +28,7 @@ mod refusals;
 mod segment;
 mod shrink;
 mod sweep;
+mod text;
 
 use std::panic;
 use std::process::ExitCode;
@@ -123,6 +125,7 @@ fn gate() -> Vec<Family> {
 
 fn long(seed: u64, count: usize) -> Vec<Family> {
   vec![
+    kept(),
     random("degenerate", seed, count, charts::degenerate),
     random("extreme", seed, count, charts::extreme),
     random("near-tied", seed, count, charts::near_ties),

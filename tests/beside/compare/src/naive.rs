@@ -2,11 +2,9 @@
 
 use crate::answers::{Answer, MOST_PIECES, Pair, Refusal};
 use crate::case::{Case, agree, same};
+use crate::lent::{self, SPARE, room};
 use crate::refusals::{damaged, numbers};
 use crate::{library, model};
-
-/// Bytes lent past those that are asked for.
-const SPARE: usize = 3;
 
 pub fn compare(case: &Case) -> Result<(), String> {
   let call = || "all pairs".to_string();
@@ -38,18 +36,10 @@ fn compare_listing(case: &Case, pairs: &[Pair]) -> Result<(), String> {
 
 /// The answer, and every lent byte.
 fn compare_call(list: &[i32], lent: usize, pairs: Result<&[Pair], Refusal>) -> Result<(), String> {
-  let mut bytes: Vec<u8> = (0..lent).map(|i| 0x80 | i as u8).collect();
-  let mut expected = bytes.clone();
-  let listed = pairs.unwrap_or_default().iter();
-  let listed = listed.flat_map(|(a, b)| [*a as u8, *b as u8]);
-  expected.iter_mut().zip(listed).for_each(|(e, v)| *e = v);
-  let expected = (Answer::of(pairs.map(<[Pair]>::len)), expected);
+  let mut bytes = lent::bytes(lent);
+  let content = lent::with_pairs(&bytes, pairs.unwrap_or_default());
+  let expected = (Answer::of(pairs.map(<[Pair]>::len)), content);
   let answer = library::all_pairs(list, &mut bytes);
   let call = || format!("all pairs of {list:?} into {lent} bytes");
   agree(call, "Rust, scope", expected, "library", (answer, bytes))
-}
-
-/// Two bytes for every two of n pieces.
-fn room(n: usize) -> usize {
-  n * n.saturating_sub(1)
 }

@@ -1,9 +1,10 @@
 //! The sweep: its list, and its state after every step. The Rust as published, the Rust that tells
-//! its steps, the model. Without upright pieces the sweep loses and invents nothing.
+//! its steps, the model, the library's own text. Without upright pieces the sweep loses and invents
+//! nothing.
 
-use crate::answers::{Pair, is_upright};
+use crate::answers::{Pair, Run, is_upright};
 use crate::case::{Case, same};
-use crate::model_sweep;
+use crate::{model_sweep, text};
 
 pub fn compare(case: &Case) -> Result<(), String> {
   let list = case.original.sweep();
@@ -11,13 +12,8 @@ pub fn compare(case: &Case) -> Result<(), String> {
   let call = || "sweep".to_string();
   same(call, &list, "Rust, telling its steps", &run.list)?;
 
-  let model = model_sweep::run(&case.chart);
-  for (m, (step, modelled)) in run.steps.iter().zip(&model.steps).enumerate() {
-    let call = || format!("sweep, step {}", m + 1);
-    same(call, step, "model", modelled)?;
-  }
-  same(call, run.steps.len(), "model", model.steps.len())?;
-  same(call, &list, "model", &model.list)?;
+  compare_steps(&run, "model", &model_sweep::run(&case.chart))?;
+  compare_steps(&run, "library, by its text", &text::run(&case.chart)?)?;
 
   if case.chart.iter().any(is_upright) {
     return Ok(());
@@ -27,4 +23,14 @@ pub fn compare(case: &Case) -> Result<(), String> {
   swept.sort();
   let call = || "all pairs, and the sweep's in their order".to_string();
   same(call, case.original.naive(), "sweep", swept)
+}
+
+fn compare_steps(run: &Run, whose: &str, theirs: &Run) -> Result<(), String> {
+  for (m, (step, other)) in run.steps.iter().zip(&theirs.steps).enumerate() {
+    let call = || format!("sweep, step {}", m + 1);
+    same(call, step, whose, other)?;
+  }
+  let call = || "sweep".to_string();
+  same(call, run.steps.len(), whose, theirs.steps.len())?;
+  same(call, &run.list, whose, &theirs.list)
 }
