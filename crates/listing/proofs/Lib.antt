@@ -1,7 +1,9 @@
 -- From another crate: `use Rattle.listing.proofs.FILE.{..}`.
---   pairs in bytes, and their lines                Pairs
---   how long a line is                             Widths
---   how many pairs and steps a chart can have       Counts
+--   the statements of specs/Demand                 Counts   swept-to-the-end;  Room   fits;  Early   decided-early
+--   what a call leaves, for callers                Outcomes   within
+--   a sweep that has ended stays as it is          Settled   settled
+--   how long a line is; pairs in bytes             Widths;  Pairs
+--   inside: what the sweep and the reader say      Sweeps;  Reader
 pub mod Pairs
 pub mod Widths
 pub mod Counts

@@ -1,0 +1,28 @@
+-- `main` writes what `put_listing` counts, which stands in front of the text.
+use borrow.Author.Needs.{needs}
+use mathlib.Core.Path.{sym}
+use lib.Seq.{length-take-le}
+use Rattle.listing.proofs.Outcomes.{within}
+use Rattle.chart.proofs.main.Statement.{statement}
+use Rattle.chart.proofs.main.Tie as tie
+
+array-share-prefix-text : tie.Need-array-share-prefix-text
+array-share-prefix-text c = let e = c .before .put-listing .ensures in within _ _ _ _ (e .0) (e .1)
+
+slice-aggregate-write-all : tie.Need-slice-aggregate-write-all
+slice-aggregate-write-all c = let r = c .before .before .put-listing in sym (length-take-le (r .result .count) (r .last .1 .0) (array-share-prefix-text (c .before)))
+
+pub main-spec : {M : Type 1} → statement M
+main-spec =
+    tie.close
+    (tie.spec
+    (λ c. search needs)
+    (λ c κs. search needs)
+    (λ c. search needs)
+    (λ c. search needs)
+    (λ c. search needs)
+    (λ c κs. search needs)
+    array-share-prefix-text
+    slice-aggregate-write-all
+    (λ c κs. search needs)
+    (λ c. search needs))
