@@ -1,6 +1,7 @@
 -- `Running`: the arrays are the sheet after each step; `Beginning`: as a run begins with them; `Answering`: what a run tells is
--- the sweep's answer; `Once`: one outcome.
+-- the sweep's answer; `Once`: one outcome; `Promises`: the statements of specs/Demand.
 pub mod Running
 mod Beginning
 mod Answering
 mod Once
+pub mod Promises
