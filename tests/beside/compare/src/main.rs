@@ -25,6 +25,7 @@ mod original;
 mod place;
 mod record;
 mod refusals;
+mod scope;
 mod segment;
 mod shrink;
 mod sweep;
@@ -68,6 +69,10 @@ fn main() -> ExitCode {
     _ => return usage(),
   };
   panic::set_hook(Box::new(|_| {}));
+  if let Err(told) = scope::compare() {
+    println!("compare: an example of the scope differs in {told}");
+    return ExitCode::FAILURE;
+  }
   for family in families {
     let start = Instant::now();
     if let Some(chart) = first_wrong(&family) {
