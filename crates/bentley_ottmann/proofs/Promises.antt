@@ -54,6 +54,7 @@ use Rattle.bentley_ottmann.specs.Swept.{asLast, saying, sweptBy, listedO
 use Rattle.bentley_ottmann.specs.Demand as due
 use Rattle.bentley_ottmann.specs.Demand.{Allowed, pairsIn, listedIn, Reached, EndOrCrossing, a-min, a-max, a-crossing}
 use Rattle.bentley_ottmann.proofs.sweep.Reads as sweep
+use Rattle.bentley_ottmann.proofs.Budgets.{steps-within, ended-or-spent}
 use Rattle.bentley_ottmann.proofs.Answering.{none-upright, refused-outcome, done-outcome}
 
 -- ---- tests, and what they say
@@ -213,6 +214,11 @@ pub ends-in-time : due.EndsInTime
 ends-in-time list n budget lent r after e o h =
     let a = accepted list n budget lent e in
     its-end list n budget lent e o ∙ always list n a .ends-soon budget (omega (arith, meeting-many list n a))
+
+pub counts-steps : due.CountsSteps
+counts-steps list n budget lent r after e o =
+    let C = ported n (pieceAt list) in
+    rw (its-steps list n budget lent e o, its-end list n budget lent e o) (steps-within C budget, ended-or-spent C budget)
 
 pub moves-forward : due.MovesForward
 unfolding answer answer-of

@@ -142,6 +142,10 @@ StepsBounded = OnEveryChart (λ list n budget lent r after. r .steps ≤ 2 * n +
 abbrev pub EndsInTime : Type 0
 EndsInTime = OnEveryChart (λ list n budget lent r after. 2 * n + length (pairsOf list n) ≤ budget → r .ended ≡ true)
 
+-- "steps done (the lesser of budget and steps to the empty queue)": as many as the budget, unless the queue is empty before
+abbrev pub CountsSteps : Type 0
+CountsSteps = OnEveryChart (λ list n budget lent r after. (r .steps ≤ budget) × ((r .ended ≡ true) ⊎ (r .steps ≡ budget)))
+
 -- no pair is invented
 abbrev pub ListsOnly : Type 0
 ListsOnly = OnEveryChart (λ list n budget lent r after. (q : Pair) → In q (listedIn r after) → Meeting list n q)
