@@ -113,6 +113,29 @@ impl Answer {
   }
 }
 
+/// What a call that sweeps returns: pairs listed, steps done, whether the queue is empty, whether no
+/// piece is upright, and the last point.
+#[derive(Clone, Copy, PartialEq, Eq, Debug, Default)]
+pub struct Swept {
+  pub number: u8,
+  pub place: usize,
+  pub pairs: usize,
+  pub steps: u32,
+  pub ended: bool,
+  pub complete: bool,
+  pub last: Option<Point>,
+}
+
+impl Swept {
+  pub fn refused((number, place): Refusal) -> Swept {
+    Swept {
+      number,
+      place,
+      ..Swept::default()
+    }
+  }
+}
+
 pub fn is_upright(piece: &Piece) -> bool {
   piece[1] == piece[3]
 }

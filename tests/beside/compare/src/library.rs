@@ -2,7 +2,7 @@
 
 use std::cmp::Ordering;
 
-use crate::answers::{Answer, End, Meeting, Point, Refusal, Side};
+use crate::answers::{Answer, End, Meeting, Point, Refusal, Side, Swept};
 
 #[link(name = "chart_c", kind = "static")]
 unsafe extern "C" {
@@ -13,6 +13,13 @@ unsafe extern "C" {
   fn mirtalughe_place(list: *const i32, length: usize) -> Placed;
   fn mirtalughe_read(file: *const u8, size: usize, list: *mut i32, lent: usize) -> Answer;
   fn mirtalughe_all_pairs(list: *const i32, length: usize, pairs: *mut u8, lent: usize) -> Answer;
+  fn mirtalughe_sweep(
+    list: *const i32,
+    length: usize,
+    budget: u32,
+    pairs: *mut u8,
+    lent: usize,
+  ) -> SweptFields;
 }
 
 #[repr(C)]
@@ -37,6 +44,20 @@ struct Placed {
   place: usize,
   meets: u8,
   values: [f64; 4],
+}
+
+#[repr(C)]
+struct SweptFields {
+  number: u8,
+  place: usize,
+  pairs: usize,
+  steps: u32,
+  ended: bool,
+  complete: bool,
+  visited: bool,
+  x: i64,
+  y: i64,
+  d: u64,
 }
 
 pub fn orient(p: [i32; 2], q: [i32; 2], r: [i32; 2]) -> Side {
@@ -102,4 +123,26 @@ pub fn read(file: &[u8], list: &mut [i32]) -> Answer {
 
 pub fn all_pairs(list: &[i32], pairs: &mut [u8]) -> Answer {
   unsafe { mirtalughe_all_pairs(list.as_ptr(), list.len(), pairs.as_mut_ptr(), pairs.len()) }
+}
+
+pub fn sweep(list: &[i32], budget: u32, pairs: &mut [u8]) -> Swept {
+  let (length, lent) = (list.len(), pairs.len());
+  let told = unsafe { mirtalughe_sweep(list.as_ptr(), length, budget, pairs.as_mut_ptr(), lent) };
+  let point = Point {
+    x: told.x.into(),
+    y: told.y.into(),
+    d: told.d.into(),
+  };
+  if !told.visited && (told.x, told.y, told.d) != (0, 0, 0) {
+    panic!("a point that is not visited is not zero");
+  }
+  Swept {
+    number: told.number,
+    place: told.place,
+    pairs: told.pairs,
+    steps: told.steps,
+    ended: told.ended,
+    complete: told.complete,
+    last: told.visited.then_some(point),
+  }
 }

@@ -29,6 +29,7 @@ mod scope;
 mod segment;
 mod shrink;
 mod sweep;
+mod sweep_call;
 mod text;
 
 use std::panic;
