@@ -1,6 +1,6 @@
 -- From another crate: `use Rattle.listing.proofs.FILE.{..}`.
 --   the statements of specs/Demand                 Counts   swept-to-the-end;  Room   fits;  Early   decided-early
---   what a call leaves, for callers                Outcomes   within
+--   what a call leaves, for callers                Outcomes   within, front
 --   a sweep that has ended stays as it is          Settled   settled
 --   how long a line is; pairs in bytes             Widths;  Pairs
 --   inside: what the sweep and the reader say      Sweeps;  Reader

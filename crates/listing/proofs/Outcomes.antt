@@ -1,13 +1,14 @@
 -- What the call leaves, with too little lent and with enough.
 -- Assumes nothing.
-use mathlib.Core.Path.{_≡_, refl, ap, _∙_}
+use mathlib.Core.Path.{_≡_, refl, sym, ap, _∙_}
 use mathlib.Core.Bool.{Bool, true, false, cond}
 use mathlib.Core.List.{List, _++_}
 use Prim.Native.Nat.{ℕ, _≤_, _<_, zero-le}
 use native.Mathlib.Nat.{le-trans}
 use native.Mathlib.Omega.{arith}
 use lib.Dec.{ltb}
-use lib.ListN.{length, drop, length-append}
+use lib.ListN.{length, take, drop, length-append}
+use lib.Seq.{length-take-le}
 use borrow.Author.Tests.{lt-ltb, le-ltb}
 use Rattle.charts.specs.Answer.{doneWith, refusedWith}
 use Rattle.charts.specs.declared.Answer.{Answer}
@@ -37,3 +38,6 @@ module _ (file lent : List ℕ) where
       go : (b : Bool) → (cond b (refusedWith 8 0) (doneWith (length (listingOf file)))) .count ≤ length (cond b lent (listingOf file ++ drop (length (listingOf file)) lent))
       go true = zero-le
       go false = omega (arith, length-append (listingOf file) (drop (length (listingOf file)) lent))
+
+  pub front : (r : Answer) (after : List ℕ) → r ≡ listingAnswer file (length lent) → after ≡ lentAfter file lent → r .count ≡ length (take (r .count) after)
+  front r after h k = sym (length-take-le (r .count) after (within r after h k))

@@ -1,5 +1,6 @@
 // Replays recorded files for the programs replay_*. A file stands on standard input as its length, two bytes, low first,
 // and its bytes; what the library answers on it is written as the Rust's answers were (tests/recorded/README.md).
+mod listings;
 mod meeting;
 mod pairs;
 mod places;
@@ -15,15 +16,17 @@ pub enum Asked {
     Place,
     AllPairs,
     Stops,
+    Listing,
 }
 
-fn answer(asked: Asked, list: &[i32]) {
+fn answer(asked: Asked, file: &[u8], list: &[i32]) {
     match asked {
         Asked::Reading => text::chart(list),
         Asked::Meeting => meeting::write(list),
         Asked::Place => places::write(list),
         Asked::AllPairs => pairs::write(list),
         Asked::Stops => stops::write(list),
+        Asked::Listing => listings::write(file),
     }
 }
 
@@ -32,7 +35,7 @@ fn replay(asked: Asked, file: &[u8]) {
     let read = chart_file::read(file, &mut list);
     if read.number == 0 {
         let end = 5 * read.count;
-        answer(asked, &list[..end]);
+        answer(asked, file, &list[..end]);
     } else {
         text::refusal(read.number, read.place);
     }

@@ -1,8 +1,6 @@
 -- `main` writes what `put_listing` counts, which stands in front of the text.
 use borrow.Author.Needs.{needs}
-use mathlib.Core.Path.{sym}
-use lib.Seq.{length-take-le}
-use Rattle.listing.proofs.Outcomes.{within}
+use Rattle.listing.proofs.Outcomes.{within, front}
 use Rattle.chart.proofs.main.Statement.{statement}
 use Rattle.chart.proofs.main.Tie as tie
 
@@ -10,7 +8,7 @@ array-share-prefix-text : tie.Need-array-share-prefix-text
 array-share-prefix-text c = let e = c .before .put-listing .ensures in within _ _ _ _ (e .0) (e .1)
 
 slice-aggregate-write-all : tie.Need-slice-aggregate-write-all
-slice-aggregate-write-all c = let r = c .before .before .put-listing in sym (length-take-le (r .result .count) (r .last .1 .0) (array-share-prefix-text (c .before)))
+slice-aggregate-write-all c = let e = c .before .before .put-listing .ensures in front _ _ _ _ (e .0) (e .1)
 
 pub main-spec : {M : Type 1} → statement M
 main-spec =

@@ -1,0 +1,6 @@
+// The listing of each recorded chart.
+use replay::Asked;
+
+fn main() {
+    replay::replay_all(Asked::Listing);
+}
