@@ -11,10 +11,12 @@ use native.Mathlib.Omega.{arith}
 use denote.Ref.{now}
 use lib.IntN.{ℤ}
 use lib.ListN.{length, take, drop, length-take, length-map}
+use Rattle.fractions.specs.Order.{turned}
 use Rattle.fractions.specs.Point.{pointOrder}
 use Rattle.fractions.specs.declared.Order.{Order}
 use Rattle.fractions.specs.declared.Order.the-variants.{Less, Equal, Greater}
 use Rattle.fractions.specs.declared.Point.{Point}
+use Rattle.fractions.proofs.Promises.{orders-points}
 use Rattle.line_segment.specs.declared.LineSegment.{LineSegment}
 use Rattle.line_segment.specs.declared.Meeting.{Meeting}
 use Rattle.line_segment.specs.declared.Meeting.the-variants.{Nothing, Crossing, Overlap}
@@ -45,10 +47,13 @@ use Rattle.sweep.proofs.Occurring.{Crossing as Crosses}
 use Rattle.sweep.proofs.Runs.{steps-visited}
 use Rattle.sweep.proofs.Tests.{clash}
 use Rattle.sweep_arrays.proofs.Distinct.{distinct-fit}
+use Rattle.sweep_geometry.specs.Demand.{LeastCommon}
 use Rattle.sweep_geometry.proofs.Accepted.{list-proper, list-sweeps}
 use Rattle.sweep_geometry.proofs.FirstCommon.{first-is-least}
 use Rattle.sweep_geometry.proofs.Promises.{ported-always}
 use Rattle.sweep_geometry.proofs.Supply.{kind-crosses}
+use Rattle.bentley_ottmann.specs.declared.Last.{Last}
+use Rattle.bentley_ottmann.specs.declared.Last.the-variants.{None, At}
 use Rattle.bentley_ottmann.specs.declared.Swept.{Swept}
 use Rattle.bentley_ottmann.specs.Swept.{asLast, saying, sweptBy, listedOver}
 use Rattle.bentley_ottmann.specs.Demand as due
@@ -76,6 +81,20 @@ less-not : (o : Order) → ¬ (o ≡ Less) → isLess o ≡ false
 less-not Less h = absurd (h refl)
 less-not Equal h = refl
 less-not Greater h = refl
+
+-- ---- two least common points are one in the order of points
+least-alike : (a b : LineSegment) (p q : Point) → LeastCommon a b p → LeastCommon a b q → pointOrder p q ≡ Equal
+least-alike a b p q h k = go (pointOrder p q) refl
+  where
+    go : (o : Order) → pointOrder p q ≡ o → o ≡ Equal
+    go Less e = absurd (k .least p (h .common) (orders-points .other-way p q ∙ ap turned e))
+    go Equal e = refl
+    go Greater e = absurd (h .least q (k .common) e)
+
+reached-alike : (a b : LineSegment) (p q : Point) (l : Last) → LeastCommon a b p → LeastCommon a b q → Reached l p → Reached l q
+reached-alike a b p q None h k r = r
+reached-alike a b p q (At l) h k r =
+    λ e. r (orders-points .other-way p l ∙ ap turned (orders-points .alike p q l (h .common .positive) (k .common .positive) (least-alike a b p q h k)) ∙ sym (orders-points .other-way q l) ∙ e)
 
 -- ---- lists
 taken-back : {A : Type 0} (m : ℕ) (l : List A) → take (length (take m l)) l ≡ take m l
@@ -128,8 +147,8 @@ module _ (list : List ℤ) (n : ℕ) (e : verdictOf list ≡ Accepted n) where
       turn m = (m .0, record { positive = m .1 .positive; first = m .1 .second; second = m .1 .first })
 
   -- as many in either
-  abbrev turned : Pair → Pair
-  turned q = (q .1, q .0)
+  abbrev swapped : Pair → Pair
+  swapped q = (q .1, q .0)
 
   meeting-once : Pairwise (λ (q r : Pair). q ≢ r) (meeting C)
   unfolding meeting
@@ -137,10 +156,10 @@ module _ (list : List ℤ) (n : ℕ) (e : verdictOf list ≡ Accepted n) where
 
   meeting-many : length (meeting C) ≡ length (pairsOf list n)
   meeting-many =
-      let there = distinct-fit (meeting C) (map turned (pairsOf list n)) meeting-once (λ q m. Memᴰ·map turned ((turned-exactly (q .0) (q .1)) .1 ((meeting-exactly q) .0 m))) in
-      let back = distinct-fit (pairsOf list n) (map turned (meeting C)) (all-pairs-once list n)
-      (λ q m. Memᴰ·map turned ((meeting-exactly (turned q)) .1 ((turned-exactly (q .1) (q .0)) .0 m))) in
-      omega (arith, there, back, length-map {B = Pair} (pairsOf list n) turned, length-map {B = Pair} (meeting C) turned)
+      let there = distinct-fit (meeting C) (map swapped (pairsOf list n)) meeting-once (λ q m. Memᴰ·map swapped ((turned-exactly (q .0) (q .1)) .1 ((meeting-exactly q) .0 m))) in
+      let back = distinct-fit (pairsOf list n) (map swapped (meeting C)) (all-pairs-once list n)
+      (λ q m. Memᴰ·map swapped ((meeting-exactly (swapped q)) .1 ((turned-exactly (q .1) (q .0)) .0 m))) in
+      omega (arith, there, back, length-map {B = Pair} (pairsOf list n) swapped, length-map {B = Pair} (meeting C) swapped)
 
   -- the points that occur
   occurs-exactly : (p : Point) → Occurs C p ↔ EndOrCrossing list n p
@@ -257,9 +276,15 @@ lists-exactly list n budget lent r after e o u q =
     let C = ported n (pieceAt list) in
     let a = accepted list n budget lent e in
     let t = (list-sweeps list n a u) .lists-exactly budget q in
+    let behind = reached ((answer C budget) .last) (first C q) in
     rw (its-list list n budget lent e o, its-last list n budget lent e o) (
-      λ m. let h = t .0 m in ((meets-exactly list n a q) .0 (h .0, h .1), reached ((answer C budget) .last) (first C q) .0 (h .2)),
-      λ h. let m = (meets-exactly list n a q) .1 (h .0) in t .1 (m .0, m .1, reached ((answer C budget) .last) (first C q) .1 (h .1)),
+      λ m.
+          let h = t .0 m in
+          let g = (meets-exactly list n a q) .0 (h .0, h .1) in
+          (g, (first C q, first-common list n (length lent) e q g, behind .0 (h .2))),
+      λ h.
+          let m = (meets-exactly list n a q) .1 (h .0) in
+          t .1 (m .0, m .1, behind .1 (reached-alike _ _ _ _ (asLast ((answer C budget) .last)) (h .1 .1) (first-common list n (length lent) e q (h .0)) (h .1 .2))),
     )
   where
     reached : (l : Option Point) (p : Point) → Behind (ported n (pieceAt list)) l p ↔ Reached (asLast l) p

@@ -51,6 +51,10 @@ abbrev pub Reached : Last → Point → Type 0
 Reached None p = ⊥
 Reached (At l) p = ¬ (pointOrder l p ≡ Less)
 
+-- .. of a pair's first common point, "the least point of the common part with its ends added, included or not"
+abbrev pub FirstReached : List ℤ → Pair → Last → Type 0
+FirstReached list q last = (p : Point) × LeastCommon (pieceAt list (q .0)) (pieceAt list (q .1)) p × Reached last p
+
 -- ---- what there is on a chart
 module _ (list : List ℤ) (n : ℕ) where
   -- two pieces that have a common point, the lesser number first
@@ -107,7 +111,7 @@ WithNoneUpright P = OnEveryChart (λ list n budget lent r after. noUpright list 
 abbrev pub ListsExactly : Type 0
 ListsExactly =
     WithNoneUpright (λ list n budget lent r after.
-    (q : Pair) → In q (listedIn r after) ↔ (Meeting list n q × Reached (r .last) (firstCommon list n q)))
+    (q : Pair) → In q (listedIn r after) ↔ (Meeting list n q × FirstReached list q (r .last)))
 
 -- "by first common point, then lesser number, then greater"
 abbrev pub ListsInOrder : Type 0
