@@ -83,11 +83,16 @@ def whole(word):
 
 
 def lines_of(data):
+    """The lines of a text, which must be UTF-8 without control characters, so that a picture can show what it says."""
     try:
-        return data.decode("utf-8").splitlines()
+        lines = data.decode("utf-8").removeprefix("\ufeff").removesuffix("\n").split("\n")
     except UnicodeDecodeError as e:
         line = data[: e.start].count(b"\n") + 1
         raise Wrong(f"line {line}: byte {e.start} of the text is not UTF-8") from None
+    for at, line in enumerate(lines, 1):
+        if odd := re.search("[^\t\r\x20-\ufffd\U00010000-\U0010ffff]", line):
+            raise Wrong(f"line {at}: the character U+{ord(odd[0]):04X} cannot stand in a text")
+    return lines
 
 
 # Readable text: a line for each piece, `kind x1 y1 x2 y2`, and comments from `#` on.

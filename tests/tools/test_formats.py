@@ -81,8 +81,13 @@ class Text(unittest.TestCase):
             said = told(chart_of_text, f"3 0 0 {word} 1".encode())
             self.assertIn(f"line 1: number 4 (x2) is {word[:20]!r}, which is not a whole number", said)
 
-    def test_not_utf8(self):
+    def test_characters(self):
         self.assertIn("line 2: byte 12 of the text is not UTF-8", told(chart_of_text, b"3 0 0 1 1\n# \xff"))
+        self.assertIn("line 2: the character U+0001 cannot", told(chart_of_text, b"3 0 0 1 1\n# \x01"))
+        self.assertIn("line 1: the character U+000C cannot", told(chart_of_text, b"3 0 0 1 1\f3 0 0 1 2\n"))
+        self.assertIn("line 1: the character U+FFFF cannot", told(chart_of_text, "# \uffff".encode()))
+        named = chart_of_text("\ufeff3 0 0 1 1 # Lüfter \u2028 🌀\r\n".encode()).pieces
+        self.assertEqual(named, [Piece(3, 0, 0, 1, 1, "Lüfter \u2028 🌀")])
 
 
 class File(unittest.TestCase):
