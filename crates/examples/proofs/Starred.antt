@@ -11,6 +11,7 @@ use Rattle.chart_file.specs.Groups.{value, marked, groupsAt}
 use Rattle.chart_file.specs.Coordinate.{signedOf}
 use Rattle.chart_file.specs.Reading.{kindAt, turned, coordinateAt, standsAt, joined, more, numbers, withLength, piece, ended, readingOf, lentReading, answerOf}
 use Rattle.chart_file.specs.Reading.{pieces as piecesIn}
+use Rattle.chart_file.proofs.Examples.{examples as files}
 use Rattle.line_segment.specs.Piece.{pointOf}
 use Rattle.place.specs.Place.{alongOf, whereBy, whereOf}
 use Rattle.naive.specs.Pairs.{bytes, over}
@@ -40,6 +41,6 @@ starred = record {
   too-far = refl;
   padded = refl;
   unended = refl;
-  empty = refl;
-  no-pieces = refl;
+  empty = ap answerOf (files .empty);
+  no-pieces = ap answerOf (files .no-pieces);
 }

@@ -1,7 +1,7 @@
 -- Which file to open for which fact. From another crate: `use Rattle.sweep_geometry.proofs.FILE.{..}`.
 --   the statements of specs/Demand, kept             Promises, Accepted, FirstCommon
 --   the record `Geometry` of sweep                   Supply       geometry, points-ordered, reduced
---   the scope's examples, computed                   Examples
+--   the upright gap with nothing lost, computed      Examples
 --   of three pieces the middle one                   Squeeze      squeeze
 --   two pieces that have turned round cross          Turning      turning, cross-in
 --   upright pieces, and points of one x              Uprights     standing-x, higher, lower
