@@ -1,7 +1,7 @@
 //! The scope's examples that are not starred, with the answers that stand there: counts 64 and 65,
 //! coordinates 32,767 and 32,768, the upright gap. crates/examples proves the starred ones.
 
-use crate::answers::{Answer, Chart, Pair, Refusal};
+use crate::answers::{Answer, Chart, Pair, Point, Refusal, Swept};
 use crate::case::{agree, same};
 use crate::file::{self, ROOM};
 use crate::lent::{self, room};
@@ -63,8 +63,15 @@ fn upright_gap() -> Result<(), String> {
   agree(call, "scope", expected, "library", (answer, bytes))?;
 
   let mut bytes = lent.clone();
-  let told = bentley_ottmann::sweep(&numbers(&chart), u32::MAX, &mut bytes);
-  let told = (told.number, told.steps, told.ended, told.complete, bytes);
-  let expected = (0, 7, true, false, lent::with_pairs(&lent, &swept));
-  agree(call, "scope", expected, "library, by its text", told)
+  let answer = library::sweep(&numbers(&chart), u32::MAX, &mut bytes);
+  let expected = Swept {
+    pairs: 1,
+    steps: 7,
+    ended: true,
+    complete: false,
+    last: Some(Point::whole(5, 6)),
+    ..Swept::default()
+  };
+  let expected = (expected, lent::with_pairs(&lent, &swept));
+  agree(call, "scope", expected, "library", (answer, bytes))
 }
