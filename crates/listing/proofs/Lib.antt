@@ -1,5 +1,6 @@
 -- From another crate: `use Rattle.listing.proofs.FILE.{..}`.
---   the statements of specs/Demand                 Counts   swept-to-the-end;  Room   fits;  Early   decided-early
+--   the statements of specs/Demand                 Counts   swept-to-the-end;  Room   fits;  Early   decided-early;
+--                                                  Placed   lines-have-places
 --   what a call leaves, for callers                Outcomes   within, front
 --   a sweep that has ended stays as it is          Settled   settled
 --   how long a line is; pairs in bytes             Widths;  Pairs
@@ -7,6 +8,7 @@
 pub mod Pairs
 pub mod Widths
 pub mod Counts
+pub mod Placed
 pub mod Settled
 pub mod Room
 pub mod Early

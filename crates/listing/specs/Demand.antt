@@ -2,6 +2,7 @@
 use mathlib.Core.Path.{_≡_}
 use mathlib.Core.Bool.{true}
 use mathlib.Core.List.{List}
+use mathlib.Core.List.{List·Memᴰ as In}
 use Prim.Native.Nat.{ℕ, _≤_}
 use lib.IntN.{ℤ}
 use lib.ListN.{length, take}
@@ -9,6 +10,8 @@ use Rattle.charts.specs.Piece.{pieceAt}
 use Rattle.charts.specs.Chart.{verdictOf}
 use Rattle.charts.specs.declared.Verdict.the-variants.{Accepted}
 use Rattle.chart_file.specs.Groups.{Bytes}
+use Rattle.place.specs.declared.Where.{Where}
+use Rattle.place.specs.Place.{whereOf}
 use Rattle.sweep.specs.Run.{answer}
 use Rattle.sweep.specs.Ported.{ported}
 use Rattle.listing.specs.Listing.{largest, listingOf, deciding, longestText}
@@ -20,6 +23,12 @@ DecidedEarly = (file : List ℕ) (k : ℕ) → deciding ≤ k → listingOf (tak
 -- "steps to the end"
 abbrev pub SweptToTheEnd : Type 0
 SweptToTheEnd = (list : List ℤ) (n : ℕ) → verdictOf list ≡ Accepted n → (answer (ported n (pieceAt list)) largest) .ended ≡ true
+
+-- every pair that is listed meets, so its line has a place
+abbrev pub LinesHavePlaces : Type 0
+LinesHavePlaces =
+    (list : List ℤ) (n : ℕ) → verdictOf list ≡ Accepted n
+    → (a b : ℕ) → In (a, b) ((answer (ported n (pieceAt list)) largest) .listed) → ¬ (whereOf (pieceAt list a) (pieceAt list b) ≡ Where.Nothing)
 
 -- there is room for every listing
 abbrev pub Fits : Type 0

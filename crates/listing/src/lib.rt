@@ -11,14 +11,14 @@ ghost use Rattle.listing.specs.Listing.{chartText, listingOf, listingAns
 use charts::Answer;
 use charts::MOST;
 
-// The bytes of the longest listing: a caller lends as many.
-pub const LONGEST: usize = 9 + 13 + 2016 * 45 + 17;
-
-// The longest chart file and one byte more: so much of an input decides its listing.
-pub const DECIDING: usize = 834;
-
 // The bytes of every pair of the largest chart.
 const PAIRS: usize = MOST * (MOST - 1);
+
+// The bytes of the longest listing, of which a line of a pair has 45: a caller lends as many.
+pub const LONGEST: usize = 9 + 13 + PAIRS / 2 * 45 + 17;
+
+// The longest chart file and one byte more: so much of an input decides its listing.
+pub const DECIDING: usize = 1 + 13 * MOST + 1;
 
 // The text of an accepted list, swept to its end.
 fn put_chart(list: &[i32], text: &mut [u8]) -> usize
