@@ -5,7 +5,7 @@
 --   an answer as a Bool; the same point            Answers     is-less-than, neither-less
 --   an end by its number                           Ends        the-end, end-at-is
 --   Cramer's point compares as the crossing        Crossings   lowest-alike, rough-before, alike-rough
---   heights by the place where lines meet          Lines       both-sloped and its kin, upright-is
+--   heights by the place where lines meet          Lines       both-sloped and its kin
 pub mod Pieces
 pub mod Filling
 pub mod Answers

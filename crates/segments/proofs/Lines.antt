@@ -9,23 +9,22 @@ use lib.IntN.{ℤ, pos, negsuc, negℤ, _+ℤ_, _-ℤ_, _*ℤ_}
 use lib.Signed.{_≤ℤ_, _<ℤ_}
 use Rattle.integers.proofs.Identity.{by-ring, terms}
 use Rattle.integers.proofs.Signs.{<-diff, <→≤, ≡-diff}
-use Rattle.integers.proofs.Order.{<-cert, ≤-cert, ≡→≤, <→≢}
+use Rattle.integers.proofs.Order.{<-cert, ≤-cert, ≡→≤}
 use Rattle.integers.proofs.Naturals.{pos-<, <-pos}
 use Rattle.fractions.specs.Order.{order, andThen}
 use Rattle.fractions.specs.Fraction.{ratioOrder}
 use Rattle.fractions.specs.declared.Order.{Order}
 use Rattle.fractions.specs.declared.Order.the-variants.{Less, Equal, Greater}
 use Rattle.fractions.specs.declared.Point.{Point}
-use Rattle.fractions.proofs.Orders.{Answer, is-less, is-equal, is-greater, answer, order-equal, less-order, equal-order, greater-order}
+use Rattle.fractions.proofs.Orders.{order-equal, less-order, equal-order, greater-order}
 use Rattle.fractions.proofs.Ratios.{order-scaled}
 use Rattle.line_segment.specs.declared.LineSegment.{LineSegment}
 use Rattle.line_segment.specs.Geometry.{run, rise}
 use Rattle.line_segment.specs.Segment.{moment, over, cramerOf}
-use Rattle.charts.specs.Fault.{eqZ}
 use Rattle.charts.specs.Piece.{isUpright as is-upright}
-use Rattle.charts.proofs.Rows.{says-eq, is-true, is-false}
 use Rattle.sweep.specs.Ported.{isLess, isEqual, isUpright, heightAbove, heightBelow, heightOrder, slopeOrder, rankOrder}
 use Rattle.sweep_geometry.proofs.Heights.{order-diff}
+use Rattle.sweep_geometry.proofs.Accepted.{upright-same}
 use Rattle.segments.specs.Heights.{lineOrder, levelAt}
 use Rattle.segments.proofs.Answers.{is-less-than}
 
@@ -78,15 +77,6 @@ module _ (p : Point) (a b : LineSegment) {c : Point} (is : c ≡ cramerOf a b) {
   meets-behind h = rw (hx, hu, is) (over-behind _ _ _ (p .x) (p .d) h)
 
 -- ---- heights
-pub upright-is : (s : LineSegment) → is-upright s ≡ isUpright s
-unfolding is-upright isUpright
-upright-is s = go (answer (s .min .x) (s .max .x))
-  where
-    go : {o : Order} → Answer (s .min .x) (s .max .x) o → eqZ (s .min .x) (s .max .x) ≡ isEqual o
-    go (is-less h) = is-false (says-eq _ _) (<→≢ h)
-    go (is-equal e) = is-true (says-eq _ _) e
-    go (is-greater h) = is-false (says-eq _ _) (λ e. <→≢ h (sym e))
-
 -- over plain numbers: a piece from x, y to x′, y′, at X over D
 abbrev above₀ : ℤ → ℤ → ℤ → ℤ → ℤ → ℤ → ℤ
 above₀ x y x′ y′ X D = y *ℤ (x′ *ℤ D -ℤ X) +ℤ y′ *ℤ (X -ℤ x *ℤ D)
@@ -122,31 +112,31 @@ positive (suc n) f = omega arith
 module _ (p : Point) (a b : LineSegment) where
   pub both-upright : {y v : ℤ} → y ≡ a .min .y → v ≡ b .min .y → is-upright a ≡ true → is-upright b ≡ true → ratioOrder y 1 v 1 ≡ heightOrder p a b
   unfolding heightOrder heightAbove heightBelow ratioOrder
-  both-upright hy hv e f = rw (hy, hv, sym (upright-is a) ∙ e, sym (upright-is b) ∙ f)
+  both-upright hy hv e f = rw (hy, hv, upright-same a ∙ e, upright-same b ∙ f)
 
   pub first-upright : {s : LineSegment} {y : ℤ} → s ≡ levelAt y → y ≡ a .min .y → is-upright a ≡ true → is-upright b ≡ false → lineOrder p s b ≡ heightOrder p a b
   unfolding heightOrder heightAbove heightBelow lineOrder levelAt run rise moment
   first-upright hs hy e f =
-      rw (hs, hy, sym (upright-is a) ∙ e, sym (upright-is b) ∙ f)
+      rw (hs, hy, upright-same a ∙ e, upright-same b ∙ f)
       (order-apart _ _ _ _ (level-first (a .min .y) (b .min .x) (b .min .y) (b .max .x) (b .max .y) (p .x) (pos (p .d))))
 
   pub second-upright : {s : LineSegment} {y : ℤ} → s ≡ levelAt y → y ≡ b .min .y → is-upright a ≡ false → is-upright b ≡ true → lineOrder p a s ≡ heightOrder p a b
   unfolding heightOrder heightAbove heightBelow lineOrder levelAt run rise moment
   second-upright hs hy e f =
-      rw (hs, hy, sym (upright-is a) ∙ e, sym (upright-is b) ∙ f)
+      rw (hs, hy, upright-same a ∙ e, upright-same b ∙ f)
       (order-apart _ _ _ _ (level-second (b .min .y) (a .min .x) (a .min .y) (a .max .x) (a .max .y) (p .x) (pos (p .d))))
 
   module _ (e : is-upright a ≡ false) (f : is-upright b ≡ false) where
     pub over-zero : p .d ≡ 0 → Equal ≡ heightOrder p a b
     unfolding heightOrder heightBelow
     over-zero z =
-        rw (sym (upright-is a) ∙ e, sym (upright-is b) ∙ f)
+        rw (upright-same a ∙ e, upright-same b ∙ f)
         (sym (order-equal (over-none (heightAbove a p) (run b) (heightAbove b p) (run a) (p .d) z)))
 
     pub both-sloped : ¬ (p .d ≡ 0) → lineOrder p a b ≡ heightOrder p a b
     unfolding heightOrder heightAbove heightBelow lineOrder run rise moment
     both-sloped z =
-        rw (sym (upright-is a) ∙ e, sym (upright-is b) ∙ f)
+        rw (upright-same a ∙ e, upright-same b ∙ f)
         (order-scaled _ _ (pos (p .d)) (pos-< (positive (p .d) z))
         ∙ order-apart _ _ _ _ (two-lines (a .min .x) (a .min .y) (a .max .x) (a .max .y) (b .min .x) (b .min .y) (b .max .x) (b .max .y) (p .x) (pos (p .d))))
 

@@ -1,6 +1,7 @@
 // Which of two pieces is the higher at a point's x, and which the steeper, after the Rust's compare_segments. No height
 // is worked out: two lines change places where they meet, so the point's x is compared with the x of that place.
 ghost use mathlib.Core.Path.{_≡_};
+ghost use Rattle.fractions.specs.Order.{turned};
 ghost use Rattle.sweep.specs.Ported.{heightOrder, slopeOrder};
 ghost use Rattle.segments.specs.Heights.{lineOrder, levelAt};
 use charts::is_upright;
@@ -45,15 +46,27 @@ fn level(y: i16) -> LineSegment
     LineSegment { min, max }
 }
 
+// The answer with its two sides exchanged.
+fn turn(o: Order) -> Order
+    ensures { λ r. ⌜ r ≡ turned o ⌝ }
+{
+    match o {
+        Order::Less => Order::Greater,
+        Order::Equal => Order::Equal,
+        Order::Greater => Order::Less,
+    }
+}
+
 // The lower line first, at p's x: of two lines, the less steep is the lower beyond the place where they meet.
 fn line_order(p: Point, a: LineSegment, b: LineSegment) -> Order
     ensures { λ r. ⌜ r ≡ lineOrder p a b ⌝ }
 {
     let c = cramer(a, b);
+    let ahead = compare_ratios(c.x, c.d, p.x, p.d);
     match slope_order(a, b) {
-        Order::Less => compare_ratios(c.x, c.d, p.x, p.d),
-        Order::Equal => compare_ratios(c.x, c.d, p.x, p.d),
-        Order::Greater => compare_ratios(p.x, p.d, c.x, c.d),
+        Order::Less => ahead,
+        Order::Equal => ahead,
+        Order::Greater => turn(ahead),
     }
 }
 

@@ -22,6 +22,9 @@ module _ (C : Chart) (p : C .Point) (q : Pair) (s : Ledger) where
   unfolding examine
   examine-by e k f = rw (eq-eqb (mark s q) 0 e, f) refl
 
+  pub free-by : {k : Kind} → kind C q ≡ k → examine-free C p k q s ≡ examine-free C p (kind C q) q s
+  free-by f = ap (λ (k : Kind). examine-free C p k q s) (sym f)
+
 pub lesser-yes : (a b : ℕ) → a < b → lesser-first a b ≡ (a, b)
 unfolding lesser-first
 lesser-yes a b h = rw (lt-ltb a b h) refl

@@ -7,7 +7,7 @@ ghost use Rattle.segments.specs.Table.{chartIn};
 ghost use Rattle.sweep.specs.Lists.{adjacent, lesser-first};
 ghost use Rattle.sweep.specs.Step.{each};
 ghost use Rattle.sweep_arrays.specs.Ledger.{examine-free, examine};
-ghost use Rattle.sweep.specs.Chart.{crosses};
+ghost use Rattle.sweep.specs.Chart.{crosses, kind};
 ghost use Rattle.visit.specs.Views.{ledger};
 use crate::ledger::FREE;
 use crate::ledger::cell_of;
@@ -51,6 +51,31 @@ fn examine_crossing(
 }
 
 // A pair that is free is examined by how its pieces meet.
+fn examine_free(
+    table: &[i16],
+    p: Point,
+    i: u8,
+    j: u8,
+    marks: &mut [u8],
+    waiting: &mut [u16],
+    head: usize,
+    bytes: &mut [u8],
+    end: usize,
+) -> Places
+    requires { ⌜ (head ≤ length (now waiting)) × (length (now waiting) ≤ 65536) ⌝ }
+    ensures { λ r. ⌜ (r .head ≤ length (now (waiting .entry))) × ((n : ℕ) → ledger (now (marks .exit)) (now (waiting .exit)) (r .head) (now (bytes .exit)) (r .end) ≡ examine-free (chartIn n (now (table .entry))) p (kind (chartIn n (now (table .entry))) (i, j)) (i, j) (ledger (now (marks .entry)) (now (waiting .entry)) head (now (bytes .entry)) end)) ⌝ }
+{
+    match segments::test(table, i, j) {
+        Meeting::Nothing => Places { head, end },
+        Meeting::Crossing => examine_crossing(table, p, i, j, marks, waiting, head, bytes, end),
+        Meeting::Overlap(_) => Places {
+            head,
+            end: list_pair(marks, bytes, end, i, j),
+        },
+    }
+}
+
+// A listed or waiting pair is skipped.
 fn examine_pair(
     table: &[i16],
     p: Point,
@@ -68,14 +93,7 @@ fn examine_pair(
     if mark_at(marks, cell_of(i, j)) != FREE {
         return Places { head, end };
     }
-    match segments::test(table, i, j) {
-        Meeting::Nothing => Places { head, end },
-        Meeting::Crossing => examine_crossing(table, p, i, j, marks, waiting, head, bytes, end),
-        Meeting::Overlap(_) => Places {
-            head,
-            end: list_pair(marks, bytes, end, i, j),
-        },
-    }
+    examine_free(table, p, i, j, marks, waiting, head, bytes, end)
 }
 
 // Two adjacent pieces, the lesser number asking.

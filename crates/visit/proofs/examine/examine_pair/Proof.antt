@@ -1,21 +1,12 @@
--- `visit::examine::examine_pair` meets its contract.
-use mathlib.Core.Path.{_≡_, sym, ap, _∙_}
+-- `visit::examine::examine_pair` meets its contract: by the pair's mark.
+use mathlib.Core.Path.{refl, sym, ap, _∙_}
 use Prim.Native.Nat.{ℕ}
 use lib.ListN.{getD}
-use Rattle.sweep.specs.Chart.{nothing, crosses, overlaps}
-use Rattle.sweep.specs.Ported.{kindOf}
-use Rattle.sweep_arrays.specs.Ledger.{mark, examine-free}
+use Rattle.sweep_arrays.specs.Ledger.{mark}
 use Rattle.visit.proofs.Examinations.{examine-marked, examine-by}
 use borrow.Author.Needs.{needs}
 use Rattle.visit.proofs.examine.examine_pair.Statement.{statement}
 use Rattle.visit.proofs.examine.examine_pair.Tie as tie
-use Rattle.visit.proofs.examine.examine_pair.Reads as reads
-use Rattle.visit.proofs.examine.examine_pair.Lts as lts
-use Rattle.visit.proofs.ledger.cell_of.Reads as cell-of-reads
-use Rattle.visit.proofs.examine.examine_crossing.Reads as examine-crossing-reads
-use Rattle.visit.proofs.ledger.list_pair.Reads as list-pair-reads
-use Rattle.visit.proofs.ledger.mark_at.Reads as mark-at-reads
-use Rattle.segments.proofs.test.Reads as test-reads
 
 cell-of-requires : tie.Need-cell-of-requires
 cell-of-requires c κs = search needs
@@ -28,36 +19,18 @@ same-length c = search needs
 
 returns : tie.Need-returns
 unfolding mark
-returns c = (c .before .before .before .before .before .before .before .pre .0, λ n. examine-marked _ _ _ _ (λ h. c .if1 .taken (c .before .mark-at .ensures ∙ ap (λ (k : ℕ). getD (c .before .before .before .before .before .before .before .args .marks .now) k 0) (c .before .before .cell-of .ensures) ∙ h)))
+returns c =
+    let st = c .before .before .before .before .before .before .before in (
+      st .pre .0,
+      λ n.
+          examine-marked _ (st .args .p) _ _ (λ h. c .if1 .taken (c .before .mark-at .ensures ∙ ap (λ (k : ℕ). getD (st .args .marks .now) k 0) (c .before .before .cell-of .ensures) ∙ h)),
+    )
 
-test-requires : tie.Need-test-requires
-test-requires c κs = search needs
-
-enum-told : tie.Need-enum-told
-enum-told c = search needs
-
-enum-told-2 : tie.Need-enum-told-2
-enum-told-2 c = search needs
-
-examine-crossing-requires : tie.Need-examine-crossing-requires
-examine-crossing-requires c κs = search needs
-
-enum-told-3 : tie.Need-enum-told-3
-enum-told-3 c = search needs
-
-list-pair-requires : tie.Need-list-pair-requires
-list-pair-requires c κs = search needs
+examine-free-requires : tie.Need-examine-free-requires
+examine-free-requires c κs = search needs
 
 same-length-2 : tie.Need-same-length-2
 same-length-2 c = search needs
-
-returns-2 : tie.Need-returns-2
-unfolding mark examine-free
-returns-2 c = (
-  c .before .before .before .before .before .before .before .before .before .before .pre .0,
-  λ n.
-      examine-by _ (c .before .before .before .before .before .before .before .before .before .before .args .p) _ _ (sym (c .before .before .before .before .mark-at .ensures ∙ ap (λ (k : ℕ). getD (c .before .before .before .before .before .before .before .before .before .before .args .marks .now) k 0) (c .before .before .before .before .before .cell-of .ensures)) ∙ c .before .before .before .if1 .left) nothing (ap kindOf (sym (c .before .before .test .ensures) ∙ c .enum-told .given .1)),
-)
 
 same-length-3 : tie.Need-same-length-3
 same-length-3 c = search needs
@@ -65,33 +38,16 @@ same-length-3 c = search needs
 same-length-4 : tie.Need-same-length-4
 same-length-4 c = search needs
 
-same-length-5 : tie.Need-same-length-5
-same-length-5 c = search needs
-
-returns-3 : tie.Need-returns-3
+returns-2 : tie.Need-returns-2
 unfolding mark
-returns-3 c =
-    let e = c .before .before .before .before .before .before .examine-crossing .ensures in (
+returns-2 c =
+    let st = c .before .before .before .before .before .before .before .before .before .before .before .before .before .before .before .before .before in
+    let e = c .before .before .before .before .before .before .examine-free .ensures in (
       e .0,
       λ n.
           e .1 n
-          ∙ examine-by _ (c .before .before .before .before .before .before .before .before .before .before .before .before .before .before .before .before .before .before .before .before .args .p) _ _ (sym (c .before .before .before .before .before .before .before .before .before .before .before .before .before .before .mark-at .ensures ∙ ap (λ (k : ℕ). getD (c .before .before .before .before .before .before .before .before .before .before .before .before .before .before .before .before .before .before .before .before .args .marks .now) k 0) (c .before .before .before .before .before .before .before .before .before .before .before .before .before .before .before .cell-of .ensures)) ∙ c .before .before .before .before .before .before .before .before .before .before .before .before .before .if1 .left) crosses (ap kindOf (sym (c .before .before .before .before .before .before .before .before .before .before .before .before .test .ensures) ∙ c .before .before .before .before .before .before .before .before .before .before .enum-told2 .given .1)),
+          ∙ examine-by _ (st .args .p) _ _ (sym (c .before .before .before .before .before .before .before .before .before .before .before .mark-at .ensures ∙ ap (λ (k : ℕ). getD (st .args .marks .now) k 0) (c .before .before .before .before .before .before .before .before .before .before .before .before .cell-of .ensures)) ∙ c .before .before .before .before .before .before .before .before .before .before .if1 .left) _ refl,
     )
-
-same-length-6 : tie.Need-same-length-6
-same-length-6 c = search needs
-
-same-length-7 : tie.Need-same-length-7
-same-length-7 c = search needs
-
-returns-4 : tie.Need-returns-4
-unfolding mark examine-free
-returns-4 c = (
-  c .before .before .before .before .before .before .before .before .before .before .before .before .before .before .before .before .before .pre .0,
-  λ n.
-      c .before .before .before .before .list-pair .ensures _ _
-      ∙ examine-by _ (c .before .before .before .before .before .before .before .before .before .before .before .before .before .before .before .before .before .args .p) _ _ (sym (c .before .before .before .before .before .before .before .before .before .before .before .mark-at .ensures ∙ ap (λ (k : ℕ). getD (c .before .before .before .before .before .before .before .before .before .before .before .before .before .before .before .before .before .args .marks .now) k 0) (c .before .before .before .before .before .before .before .before .before .before .before .before .cell-of .ensures)) ∙ c .before .before .before .before .before .before .before .before .before .before .if1 .left) overlaps (ap kindOf (sym (c .before .before .before .before .before .before .before .before .before .test .ensures) ∙ c .before .before .before .before .before .before .before .enum-told3 .given .1)),
-)
 
 pub examine-pair-spec : {M : Type 1} → statement M
 examine-pair-spec =
@@ -101,18 +57,8 @@ examine-pair-spec =
     mark-at-requires
     same-length
     returns
-    test-requires
-    enum-told
-    enum-told-2
-    examine-crossing-requires
-    enum-told-3
-    list-pair-requires
+    examine-free-requires
     same-length-2
-    returns-2
     same-length-3
     same-length-4
-    same-length-5
-    returns-3
-    same-length-6
-    same-length-7
-    returns-4)
+    returns-2)
