@@ -3,10 +3,7 @@
 --                                                  Placed   lines-have-places
 --   what a call leaves, for callers                Outcomes   within, front
 --   a sweep that has ended stays as it is          Settled   settled
---   how long a line is; pairs in bytes             Widths;  Pairs
 --   inside: what the sweep and the reader say      Sweeps;  Reader
-pub mod Pairs
-pub mod Widths
 pub mod Counts
 pub mod Placed
 pub mod Settled
@@ -16,5 +13,4 @@ pub mod Sweeps
 pub mod Reader
 pub mod Outcomes
 pub mod Once
-mod Examples
 mod Worked

@@ -1,5 +1,5 @@
--- The contract of `put_listing` allows one answer and one content of the lent bytes; so do those of what puts words and
--- numbers, and that of the nearest unit allows one answer.
+-- The contract of `put_listing` allows one answer and one content of the lent bytes; so do those of what puts lines, words
+-- and numbers, and that of the nearest unit allows one answer.
 -- Assumes nothing.
 use mathlib.Core.Path.{_≡_, sym, ap, _∙_}
 use mathlib.Core.List.{List}
@@ -12,6 +12,9 @@ use Rattle.decimals.proofs.put_word.Reads as put-word
 use Rattle.decimals.proofs.put_natural.Reads as put-natural
 use Rattle.decimals.proofs.put_integer.Reads as put-integer
 use Rattle.units.proofs.nearest_unit.Reads as nearest-unit
+use Rattle.lines.proofs.put_count.Reads as put-count
+use Rattle.lines.proofs.put_complete.Reads as put-complete
+use Rattle.lines.proofs.put_pairs.Reads as put-pairs
 use Rattle.listing.proofs.put_listing.Reads as put-listing
 
 one-text : {x y : ℕ} {b c : List ℕ} {t : Text} → text b x ≡ t → text c y ≡ t → (x ≡ y) × (b ≡ c)
@@ -31,6 +34,15 @@ put-integer-once κ a x y s t h k = one-text h k
 
 pub nearest-unit-once : OneResult nearest-unit.Post
 nearest-unit-once κ a x y s t h k = h ∙ sym k
+
+pub put-count-once : OneOutcome put-count.Post (λ κ s. now (s .0))
+put-count-once κ a x y s t h k = one-text h k
+
+pub put-complete-once : OneOutcome put-complete.Post (λ κ s. now (s .0))
+put-complete-once κ a x y s t h k = one-text h k
+
+pub put-pairs-once : OneOutcome put-pairs.Post (λ κ s. now (s .1 .1 .0))
+put-pairs-once κ a x y s t h k = one-text h k
 
 pub put-listing-once : OneOutcome put-listing.Post (λ κ s. now (s .1 .0))
 put-listing-once κ a x y s t h k = (h .0 ∙ sym (k .0), h .1 ∙ sym (k .1))

@@ -1,4 +1,3 @@
--- The listing of a chart: `Lines` says how each line reads, `Listing` which lines a file has, and `Demand` what is promised.
-pub mod Lines
+-- The listing of a chart file: `Listing` says which lines a file has, and `Demand` what is promised.
 pub mod Listing
 pub mod Demand

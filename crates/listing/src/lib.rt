@@ -1,6 +1,4 @@
 // The listing of a chart file, as text in lent bytes.
-mod lines;
-
 ghost use mathlib.Core.Path.{_≡_};
 ghost use Prim.Native.Nat.{_/_};
 ghost use lib.ListN.{length};

@@ -24,7 +24,7 @@ use Rattle.decimals.specs.Decimal.{signedDecimal}
 use Rattle.decimals.proofs.Digits.{short}
 use Rattle.units.specs.Units.{nearestUnit}
 use Rattle.units.proofs.Best.{stays-within}
-use Rattle.listing.specs.Lines.{countLine, completeLine, unitText, pointText, placeText, pairLine}
+use Rattle.lines.specs.Lines.{countLine, completeLine, unitText, pointText, placeText, pairLine}
 
 -- ---- numbers
 signed-width : (z : ℤ) → natAbs z ≤ 2 ^ 15 → length (signedDecimal z) ≤ 6

@@ -6,9 +6,9 @@ use lib.IntN.{ℤ}
 use mir.Syntax.{w64}
 use mir.Facts.{toZ-ofZ}
 use Rattle.decimals.proofs.Puts.{put-then, put-as}
-use Rattle.listing.specs.Lines.{unitText, pointText}
-use Rattle.listing.proofs.lines.put_point.Statement.{statement}
-use Rattle.listing.proofs.lines.put_point.Tie as tie
+use Rattle.lines.specs.Lines.{unitText, pointText}
+use Rattle.lines.proofs.put_point.Statement.{statement}
+use Rattle.lines.proofs.put_point.Tie as tie
 
 returns : tie.Need-returns
 unfolding pointText

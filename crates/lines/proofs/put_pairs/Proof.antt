@@ -5,10 +5,10 @@ use Prim.Native.Nat.{_*_, _-_, _/_, _≤_}
 use native.Mathlib.Omega.{arith}
 use lib.ListN.{length, drop}
 use Rattle.decimals.specs.Text.{text as Text·text, put}
-use Rattle.listing.specs.Lines.{pairsIn, pairLines}
-use Rattle.listing.proofs.Pairs.{line-next, lines-end}
-use Rattle.listing.proofs.lines.put_pairs.Statement.{statement}
-use Rattle.listing.proofs.lines.put_pairs.Tie as tie
+use Rattle.lines.specs.Lines.{pairsIn, pairLines}
+use Rattle.lines.proofs.Pairs.{line-next, lines-end}
+use Rattle.lines.proofs.put_pairs.Statement.{statement}
+use Rattle.lines.proofs.put_pairs.Tie as tie
 
 abbrev Inv-loop : tie.InvT-loop
 Inv-loop list pairs text₀ end count next₀ k₀ text next k =

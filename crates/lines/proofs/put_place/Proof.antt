@@ -3,9 +3,9 @@ use borrow.Author.Needs.{needs}
 use mathlib.Core.Path.{sym, ap}
 use Rattle.decimals.specs.Text.{ascii, put}
 use Rattle.decimals.proofs.Puts.{put-then, put-as}
-use Rattle.listing.specs.Lines.{placeText}
-use Rattle.listing.proofs.lines.put_place.Statement.{statement}
-use Rattle.listing.proofs.lines.put_place.Tie as tie
+use Rattle.lines.specs.Lines.{placeText}
+use Rattle.lines.proofs.put_place.Statement.{statement}
+use Rattle.lines.proofs.put_place.Tie as tie
 
 returns : tie.Need-returns
 unfolding placeText put

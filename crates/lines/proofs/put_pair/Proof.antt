@@ -5,9 +5,9 @@ use Rattle.decimals.specs.Text.{ascii}
 use Rattle.decimals.proofs.Puts.{put-then, put-as}
 use Rattle.place.specs.declared.Where.{Where}
 use Rattle.place.specs.Place.{whereOf}
-use Rattle.listing.specs.Lines.{pairLine}
-use Rattle.listing.proofs.lines.put_pair.Statement.{statement}
-use Rattle.listing.proofs.lines.put_pair.Tie as tie
+use Rattle.lines.specs.Lines.{pairLine}
+use Rattle.lines.proofs.put_pair.Statement.{statement}
+use Rattle.lines.proofs.put_pair.Tie as tie
 
 returns : tie.Need-returns
 unfolding pairLine ascii

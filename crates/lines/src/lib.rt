@@ -3,7 +3,7 @@ ghost use mathlib.Core.Path.{_≡_};
 ghost use Rattle.decimals.specs.Text.{text as Text·text, put};
 ghost use Rattle.charts.specs.Piece.{pieceAt};
 ghost use Rattle.place.specs.Place.{whereOf};
-ghost use Rattle.listing.specs.Lines.{countLine, completeLine, unitText, pointText, placeText, pairLine, pairsIn, pairLines};
+ghost use Rattle.lines.specs.Lines.{countLine, completeLine, unitText, pointText, placeText, pairLine, pairsIn, pairLines};
 use fractions::Point;
 use place::Where;
 

@@ -11,7 +11,7 @@ use Rattle.charts.specs.Piece.{pieceAt}
 use Rattle.place.specs.Place.{whereOf}
 use Rattle.decimals.specs.Text.{Text, put}
 use Rattle.decimals.proofs.Puts.{put-append}
-use Rattle.listing.specs.Lines.{pairLine, pairsIn, pairLines}
+use Rattle.lines.specs.Lines.{pairLine, pairsIn, pairLines}
 
 pairs-next : (bytes : List ℕ) (k : ℕ) → 2 * k + 1 < length bytes
     → pairsIn (drop (2 * k) bytes) ≡ (getD bytes (2 * k) 0, getD bytes (2 * k + 1) 0) ∷ pairsIn (drop (2 * (k + 1)) bytes)

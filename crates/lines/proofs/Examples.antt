@@ -9,7 +9,7 @@ use Rattle.place.specs.declared.Where.{Where}
 use Rattle.decimals.specs.Text.{ascii}
 use Rattle.decimals.specs.Decimal.{digits, decimal, signedDecimal}
 use Rattle.units.specs.Units.{floorOf, nearestUnit}
-use Rattle.listing.specs.Lines.{countLine, completeLine, unitText, pointText, placeText, pairLine}
+use Rattle.lines.specs.Lines.{countLine, completeLine, unitText, pointText, placeText, pairLine}
 
 abbrev point : ℤ → ℤ → ℕ → Point
 point x y d = record { x = x; y = y; d = d }

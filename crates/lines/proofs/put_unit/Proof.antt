@@ -10,9 +10,9 @@ use Rattle.decimals.specs.Text.{ascii}
 use Rattle.decimals.specs.Decimal.{signedDecimal}
 use Rattle.decimals.proofs.Puts.{put-then, put-as}
 use Rattle.units.specs.Units.{nearestUnit}
-use Rattle.listing.specs.Lines.{unitText}
-use Rattle.listing.proofs.lines.put_unit.Statement.{statement}
-use Rattle.listing.proofs.lines.put_unit.Tie as tie
+use Rattle.lines.specs.Lines.{unitText}
+use Rattle.lines.proofs.put_unit.Statement.{statement}
+use Rattle.lines.proofs.put_unit.Tie as tie
 
 returns : tie.Need-returns
 unfolding unitText ascii

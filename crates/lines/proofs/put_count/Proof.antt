@@ -2,9 +2,9 @@
 use borrow.Author.Needs.{needs}
 use Rattle.decimals.specs.Text.{ascii}
 use Rattle.decimals.proofs.Puts.{put-then}
-use Rattle.listing.specs.Lines.{countLine}
-use Rattle.listing.proofs.lines.put_count.Statement.{statement}
-use Rattle.listing.proofs.lines.put_count.Tie as tie
+use Rattle.lines.specs.Lines.{countLine}
+use Rattle.lines.proofs.put_count.Statement.{statement}
+use Rattle.lines.proofs.put_count.Tie as tie
 
 returns : tie.Need-returns
 unfolding countLine ascii
