@@ -1,23 +1,25 @@
-//! How long the library's calls take beside the Rust's and beside a plain C++ loop, as two tables.
+//! How long the library's calls take beside the Rust's, a plain C++ loop and CGAL, as three tables.
 
 use std::hint::black_box;
 use std::io::{Error, Result, Write};
-use std::process::{Command, Stdio};
+use std::path::Path;
+use std::process::{Command, Output, Stdio};
 use std::time::Instant;
 
 use crate::answers::{Chart, LIMIT, MOST_PIECES, Point, is_upright};
 use crate::charts::{self, Random};
 use crate::original::{self, Original};
 use crate::refusals::numbers;
-use crate::{library, model};
+use crate::{bench_sweep, library, model};
 
 const SEED: u64 = 6;
 /// A time is that of the quickest of so many batches of calls.
-const BATCHES: usize = 40;
+pub const BATCHES: usize = 40;
 const POINTS: usize = 1_000;
 
-/// Prints both tables; `plain` is the program of plain.cpp.
-pub fn print(plain: &str) -> Result<()> {
+/// Prints the tables; `programs` is the folder with the programs of plain.cpp, once.c and, where it could be had,
+/// cgal.cpp.
+pub fn print(programs: &Path) -> Result<()> {
   println!("| points | library, ns | Rust, ns | Rust / library |");
   println!("|---|---|---|---|");
   order_row(
@@ -30,6 +32,16 @@ pub fn print(plain: &str) -> Result<()> {
     "| chart | pieces | pairs | library, ms | Rust, ms | C++, ms | Rust / library | library / C++ |"
   );
   println!("|---|---|---|---|---|---|---|---|");
+  let charts = measured();
+  for (name, chart) in &charts {
+    pairs_row(name, chart, &programs.join("plain"))?;
+  }
+  println!();
+  bench_sweep::print(&charts, programs)
+}
+
+/// The charts of four tempers, each cut to 16 and 32 pieces and whole.
+fn measured() -> Vec<(&'static str, Chart)> {
   let random = &mut Random::new(SEED, 0);
   let tempers = [
     ("sparse", scattered(random, MOST_PIECES, 3_000)),
@@ -37,12 +49,8 @@ pub fn print(plain: &str) -> Result<()> {
     ("dense", scattered(random, MOST_PIECES, 2 * LIMIT)),
     ("every two cross", crossed(random)),
   ];
-  for (name, chart) in tempers {
-    for n in [16, 32, 64] {
-      pairs_row(name, &chart[..n].to_vec(), plain)?;
-    }
-  }
-  Ok(())
+  let cut = |(name, chart): (_, Chart)| [16, 32, 64].map(|n| (name, chart[..n].to_vec()));
+  tempers.into_iter().flat_map(cut).collect()
 }
 
 /// Every point against the one after it.
@@ -50,13 +58,13 @@ fn order_row(name: &str, points: &[Point]) {
   let ours = points.iter().map(|p| (p.x as i64, p.y as i64, p.d as u64));
   let ours: Vec<_> = ours.collect();
   let theirs: Vec<_> = points.iter().map(original::corner_of).collect();
-  let library = least(20, || {
+  let library = least(BATCHES, 20, || {
     for two in ours.windows(2) {
       let ((x1, y1, d1), (x2, y2, d2)) = (two[0], two[1]);
       black_box(library::mirtalughe_compare_points(x1, y1, d1, x2, y2, d2));
     }
   });
-  let rust = least(5, || {
+  let rust = least(BATCHES, 5, || {
     for two in theirs.windows(2) {
       black_box(two[0].cmp(&two[1]));
     }
@@ -68,17 +76,17 @@ fn order_row(name: &str, points: &[Point]) {
   );
 }
 
-fn pairs_row(name: &str, chart: &Chart, plain: &str) -> Result<()> {
+fn pairs_row(name: &str, chart: &Chart, plain: &Path) -> Result<()> {
   let n = chart.len();
   let list = numbers(chart);
   let original = Original::new(chart);
   let mut bytes = vec![0; n * (n - 1)];
-  let calls = 10_000 / n;
+  let calls = 100_000 / n;
   let count = library::all_pairs(&list, &mut bytes).count;
-  let library = least(calls, || {
+  let library = least(BATCHES, calls, || {
     black_box(library::all_pairs(black_box(&list), &mut bytes));
   });
-  let rust = least(calls, || {
+  let rust = least(BATCHES, calls, || {
     black_box(black_box(&original).naive());
   });
   let (plain_count, cpp) = ask(plain, calls, &list)?;
@@ -96,30 +104,39 @@ fn pairs_row(name: &str, chart: &Chart, plain: &str) -> Result<()> {
 }
 
 /// Nanoseconds of one call, in the quickest batch.
-fn least(calls: usize, mut call: impl FnMut()) -> f64 {
+pub fn least(batches: usize, calls: usize, mut call: impl FnMut()) -> f64 {
   let mut batch = || {
     let start = Instant::now();
     (0..calls).for_each(|_| call());
     start.elapsed().as_nanos() as f64 / calls as f64
   };
-  (0..BATCHES).map(|_| batch()).fold(f64::INFINITY, f64::min)
+  (0..batches).map(|_| batch()).fold(f64::INFINITY, f64::min)
 }
 
-/// The plain loop's count of pairs and nanoseconds of one call.
-fn ask(plain: &str, calls: usize, list: &[i32]) -> Result<(usize, f64)> {
-  let mut program = Command::new(plain)
-    .stdin(Stdio::piped())
-    .stdout(Stdio::piped())
-    .spawn()?;
-  let mut question = format!("{BATCHES} {calls} {}", list.len() / 5);
-  list.iter().for_each(|v| question += &format!(" {v}"));
-  let mut input = program.stdin.take().expect("the input is piped");
-  input.write_all(question.as_bytes())?;
-  drop(input);
-  let told = String::from_utf8_lossy(&program.wait_with_output()?.stdout).into_owned();
+/// The count of pairs and the nanoseconds of one call that a C++ program tells.
+pub fn ask(program: &Path, calls: usize, list: &[i32]) -> Result<(usize, f64)> {
+  let question = format!("{BATCHES} {calls} {}", as_text(list));
+  let told = answer(&mut Command::new(program), &question)?.stdout;
+  let told = String::from_utf8_lossy(&told);
   let times = |(count, ns): (&str, &str)| Some((count.parse().ok()?, ns.parse().ok()?));
   let told = told.trim().split_once(' ').and_then(times);
-  told.ok_or_else(|| Error::other("the plain loop tells no time"))
+  told.ok_or_else(|| Error::other("a program tells no time"))
+}
+
+/// The count of pieces, then their numbers.
+pub fn as_text(list: &[i32]) -> String {
+  let numbers = list.iter().map(|v| format!(" {v}"));
+  format!("{}{}", list.len() / 5, numbers.collect::<String>())
+}
+
+/// What a program says to a question on its standard input.
+pub fn answer(program: &mut Command, question: &str) -> Result<Output> {
+  let piped = program.stdin(Stdio::piped()).stdout(Stdio::piped());
+  let mut running = piped.stderr(Stdio::piped()).spawn()?;
+  let mut input = running.stdin.take().expect("the input is piped");
+  input.write_all(question.as_bytes())?;
+  drop(input);
+  running.wait_with_output()
 }
 
 /// Crossings of random charts, in the order in which they are found.

@@ -4,10 +4,11 @@
 //!   compare long SEED COUNT    those kept by hand, and COUNT random charts of each temper from SEED
 //!   compare record FOLDER      writes the Rust's answers on a fixed sample
 //!   compare listing FILE       what the Rust lists of a chart file, as the chart program's text
-//!   compare bench PLAIN        how long calls take, beside the Rust and the program PLAIN
+//!   compare bench FOLDER       how long calls take, beside the Rust and the programs in FOLDER
 
 mod answers;
 mod bench;
+mod bench_sweep;
 mod case;
 mod charts;
 mod file;
@@ -66,7 +67,7 @@ fn main() -> ExitCode {
     },
     ["record", folder] => return written(record::write(folder.as_ref())),
     ["listing", file] => return written(record::print_listing(file.as_ref())),
-    ["bench", plain] => return written(bench::print(plain)),
+    ["bench", programs] => return written(bench::print(programs.as_ref())),
     _ => return usage(),
   };
   panic::set_hook(Box::new(|_| {}));
@@ -101,7 +102,7 @@ fn main() -> ExitCode {
 }
 
 fn usage() -> ExitCode {
-  eprintln!("usage: compare gate | long SEED COUNT | record FOLDER | listing FILE | bench PLAIN");
+  eprintln!("usage: compare gate | long SEED COUNT | record FOLDER | listing FILE | bench FOLDER");
   ExitCode::from(2)
 }
 

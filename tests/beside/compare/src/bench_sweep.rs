@@ -1,0 +1,91 @@
+//! How long a sweep takes in the library, in the Rust and in CGAL, and how many instructions it is.
+
+use std::hint::black_box;
+use std::io::{Error, ErrorKind, Result};
+use std::path::Path;
+use std::process::Command;
+
+use crate::answers::Chart;
+use crate::bench::{BATCHES, answer, as_text, ask, least};
+use crate::lent::room;
+use crate::library;
+use crate::original::Original;
+use crate::refusals::numbers;
+
+/// The Rust takes up to seconds for a call: so many nanoseconds are spent on it, and three calls at least.
+const RUST_TIME: f64 = 5e9;
+const RUST_CALLS: f64 = 1_000.0;
+
+pub fn print(charts: &[(&str, Chart)], programs: &Path) -> Result<()> {
+  println!(
+    "| chart | pieces | pairs | steps | library, ms | Rust, ms | CGAL, ms | Rust / library | library / CGAL | instructions, thousands |"
+  );
+  println!("|---|---|---|---|---|---|---|---|---|---|");
+  for (name, chart) in charts {
+    row(name, chart, programs)?;
+  }
+  Ok(())
+}
+
+fn row(name: &str, chart: &Chart, programs: &Path) -> Result<()> {
+  let n = chart.len();
+  let list = numbers(chart);
+  let original = Original::new(chart);
+  let mut bytes = vec![0; room(n)];
+  let swept = library::sweep(&list, u32::MAX, &mut bytes);
+  let calls = 20_000 / swept.steps as usize;
+  let library = least(BATCHES, calls, || {
+    black_box(library::sweep(black_box(&list), u32::MAX, &mut bytes));
+  });
+  let mut listed = 0;
+  let mut sweep = || listed = black_box(black_box(&original).sweep()).len();
+  let once = least(1, 1, &mut sweep);
+  let batches = (RUST_TIME / once).clamp(3.0, RUST_CALLS) as usize;
+  let rust = least(batches, 1, sweep);
+  let cgal = where_had(ask(&programs.join("cgal"), calls, &list))?;
+  let crossings = cgal.map_or(listed, |(count, _)| count);
+  if [listed, crossings] != [swept.pairs; 2] {
+    return Err(Error::other("the counts of pairs differ"));
+  }
+  let ms = |ns: f64| format!("{:.4}", ns / 1e6);
+  let cells = [
+    name.to_string(),
+    n.to_string(),
+    swept.pairs.to_string(),
+    swept.steps.to_string(),
+    ms(library),
+    ms(rust),
+    told(cgal.map(|(_, ns)| ms(ns))),
+    format!("{:.0}", rust / library),
+    told(cgal.map(|(_, ns)| format!("{:.2}", library / ns))),
+    told(where_had(instructions(programs, &list))?),
+  ];
+  println!("| {} |", cells.join(" | "));
+  Ok(())
+}
+
+/// None where the program is not there.
+fn where_had<T>(answer: Result<T>) -> Result<Option<T>> {
+  match answer {
+    Ok(answer) => Ok(Some(answer)),
+    Err(e) if e.kind() == ErrorKind::NotFound => Ok(None),
+    Err(e) => Err(e),
+  }
+}
+
+fn told<T: ToString>(cell: Option<T>) -> String {
+  cell.map_or("-".to_string(), |v| v.to_string())
+}
+
+/// How many thousand instructions one call is, as valgrind counts them.
+fn instructions(programs: &Path, list: &[i32]) -> Result<u64> {
+  let mut valgrind = Command::new("valgrind");
+  valgrind.args(["--tool=callgrind", "--callgrind-out-file=/dev/null"]);
+  valgrind.arg("--toggle-collect=mirtalughe_sweep");
+  let counted = answer(valgrind.arg(programs.join("once")), &as_text(list))?;
+  let counted = String::from_utf8_lossy(&counted.stderr).into_owned();
+  let count = counted.lines().find_map(|l| l.split("Collected : ").nth(1));
+  let count: Option<u64> = count.and_then(|count| count.trim().parse().ok());
+  let count = count.ok_or_else(|| Error::other("valgrind tells no count"))?;
+  Ok((count + 500) / 1_000)
+}
