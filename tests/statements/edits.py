@@ -1,5 +1,7 @@
 #!/usr/bin/env python3
-"""Shows of every must-fail edit of crate sweep that demand 3 is false with it, by the smallest chart that it finds.
+"""Looks, for every must-fail edit of crate sweep, for a chart on which demand 3 is false with it; prints the smallest found.
+
+The edits are made by hand in the model below: that they are those of the crate is held to their names alone.
 
 usage: edits.py [charts [seed]]    Exits 1 where an edit fails no chart or is not known here, or the
 specs as they stand fail one.
