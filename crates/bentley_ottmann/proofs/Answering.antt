@@ -24,16 +24,16 @@ use Rattle.sweep.specs.Queue.{next as next-of}
 use Rattle.sweep.specs.Run.{is-none, run, answer-of, answer}
 use Rattle.sweep.specs.Run.{onwards as going}
 use Rattle.sweep.specs.Ported.{isUpright}
-use Rattle.sweep_arrays.specs.Event.{Sheet}
-use Rattle.sweep_arrays.specs.Run.{next, onwards, start}
-use Rattle.sweep_arrays.specs.Agreement.{flat, Agrees}
-use Rattle.sweep_arrays.proofs.Flat.{flat-length}
-use Rattle.sweep_arrays.proofs.Nexts.{next-agrees}
+use Rattle.ported_arrays.specs.Event.{Sheet}
+use Rattle.ported_arrays.specs.Run.{next, onwards, start}
+use Rattle.ported_arrays.specs.Agreement.{flat, Agrees}
+use Rattle.ported_arrays.proofs.Flat.{flat-length}
+use Rattle.ported_arrays.proofs.Nexts.{next-agrees}
 use Rattle.sweep_geometry.proofs.Accepted.{upright-same}
-use Rattle.segments.specs.Table.{pieceIn, chartIn}
-use Rattle.segments.specs.Filled.{filled}
-use Rattle.segments.proofs.Ordering.{ordered}
-use Rattle.segments.proofs.Filling.{filled-pieces}
+use Rattle.ported_pieces.specs.Table.{pieceIn, chartIn}
+use Rattle.ported_pieces.specs.Filled.{filled}
+use Rattle.ported_pieces.proofs.Ordering.{ordered}
+use Rattle.ported_pieces.proofs.Filling.{filled-pieces}
 use Rattle.bentley_ottmann.specs.declared.run.Stop.{Stop}
 use Rattle.bentley_ottmann.specs.declared.Swept.{Swept}
 use Rattle.bentley_ottmann.specs.Swept.{asLast, sweptBy, listedOver, refusedWith, sweepOf, lentAfter}

@@ -10,10 +10,10 @@ use Rattle.line_segment.specs.Piece.{HasLength}
 use Rattle.charts.specs.Chart.{most}
 use Rattle.charts.specs.Answer.{room}
 use Rattle.sweep.specs.Lists.{upto}
-use Rattle.sweep_arrays.specs.Numbers.{end-before}
-use Rattle.sweep_arrays.specs.Insertion.{insert-all}
-use Rattle.sweep_arrays.specs.Run.{blank}
-use Rattle.segments.specs.Table.{pieceIn, chartIn}
+use Rattle.ported_arrays.specs.Numbers.{end-before}
+use Rattle.ported_arrays.specs.Insertion.{insert-all}
+use Rattle.ported_arrays.specs.Run.{blank}
+use Rattle.ported_pieces.specs.Table.{pieceIn, chartIn}
 use Rattle.bentley_ottmann.specs.Running.{places, Begun}
 
 abbrev pub zeros : ℕ → List ℕ

@@ -46,7 +46,7 @@ use Rattle.sweep.proofs.Occurring.{all-in, all-out, all-once, min-occurs, max-o
 use Rattle.sweep.proofs.Occurring.{Crossing as Crosses}
 use Rattle.sweep.proofs.Runs.{steps-visited}
 use Rattle.sweep.proofs.Tests.{clash}
-use Rattle.sweep_arrays.proofs.Distinct.{distinct-fit}
+use Rattle.ported_arrays.proofs.Distinct.{distinct-fit}
 use Rattle.sweep_geometry.specs.Demand.{LeastCommon}
 use Rattle.sweep_geometry.proofs.Accepted.{list-proper, list-sweeps}
 use Rattle.sweep_geometry.proofs.FirstCommon.{first-is-least}

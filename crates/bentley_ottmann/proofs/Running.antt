@@ -24,24 +24,24 @@ use Rattle.sweep.specs.State.{start as begin}
 use Rattle.sweep.specs.Run.{is-none}
 use Rattle.sweep.specs.Run.{onwards as going}
 use Rattle.sweep.proofs.Pairs.{upto-length}
-use Rattle.sweep_arrays.specs.Numbers.{cell}
-use Rattle.sweep_arrays.specs.Event.{Sheet}
-use Rattle.sweep_arrays.specs.Event.{step as stepOn}
-use Rattle.sweep_arrays.specs.Run.{next-by, next, move-to, onwards, start}
-use Rattle.sweep_arrays.specs.Agreement.{Room, Agrees}
-use Rattle.sweep_arrays.proofs.Cells.{cell-small}
-use Rattle.sweep_arrays.proofs.Flat.{flat-length}
-use Rattle.sweep_arrays.proofs.Simulation.{run-agrees}
-use Rattle.segments.specs.Table.{pieceIn, chartIn}
-use Rattle.segments.proofs.Ordering.{ordered}
-use Rattle.status.specs.Joined.{AllBelow}
-use Rattle.event_queue.specs.declared.Next.{Next}
-use Rattle.event_queue.specs.declared.Next.the-variants.{Nothing}
-use Rattle.event_queue.specs.declared.Next.the-variants.{At as NextAt}
-use Rattle.event_queue.specs.Next.{asNext, nextBy}
+use Rattle.ported_arrays.specs.Numbers.{cell}
+use Rattle.ported_arrays.specs.Event.{Sheet}
+use Rattle.ported_arrays.specs.Event.{step as stepOn}
+use Rattle.ported_arrays.specs.Run.{next-by, next, move-to, onwards, start}
+use Rattle.ported_arrays.specs.Agreement.{Room, Agrees}
+use Rattle.ported_arrays.proofs.Cells.{cell-small}
+use Rattle.ported_arrays.proofs.Flat.{flat-length}
+use Rattle.ported_arrays.proofs.Simulation.{run-agrees}
+use Rattle.ported_pieces.specs.Table.{pieceIn, chartIn}
+use Rattle.ported_pieces.proofs.Ordering.{ordered}
+use Rattle.ported_active.specs.Joined.{AllBelow}
+use Rattle.ported_queue.specs.declared.Next.{Next}
+use Rattle.ported_queue.specs.declared.Next.the-variants.{Nothing}
+use Rattle.ported_queue.specs.declared.Next.the-variants.{At as NextAt}
+use Rattle.ported_queue.specs.Next.{asNext, nextBy}
 use Rattle.bentley_ottmann.specs.declared.Last.{Last}
 use Rattle.bentley_ottmann.specs.declared.Last.the-variants.{None, At}
-use Rattle.visit.specs.Views.{ledger, sheet}
+use Rattle.ported_step.specs.Views.{ledger, sheet}
 use Rattle.bentley_ottmann.specs.Swept.{asLast}
 use Rattle.bentley_ottmann.specs.Running.{places, lastAt, Begun, Stopped}
 

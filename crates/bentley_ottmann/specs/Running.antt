@@ -13,11 +13,11 @@ use Rattle.charts.specs.Answer.{room}
 use Rattle.sweep.specs.Lists.{upto}
 use Rattle.sweep.specs.Chart.{Chart}
 use Rattle.sweep.specs.Run.{is-none}
-use Rattle.sweep_arrays.specs.Numbers.{end-before}
-use Rattle.sweep_arrays.specs.Insertion.{insert-all}
-use Rattle.sweep_arrays.specs.Event.{Sheet}
-use Rattle.sweep_arrays.specs.Run.{blank, next}
-use Rattle.segments.specs.Table.{pieceIn, chartIn}
+use Rattle.ported_arrays.specs.Numbers.{end-before}
+use Rattle.ported_arrays.specs.Insertion.{insert-all}
+use Rattle.ported_arrays.specs.Event.{Sheet}
+use Rattle.ported_arrays.specs.Run.{blank, next}
+use Rattle.ported_pieces.specs.Table.{pieceIn, chartIn}
 use Rattle.bentley_ottmann.specs.declared.Last.{Last}
 use Rattle.bentley_ottmann.specs.declared.Last.the-variants.{None, At}
 use Rattle.bentley_ottmann.specs.declared.run.Stop.{Stop}

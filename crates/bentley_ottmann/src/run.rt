@@ -7,14 +7,14 @@ ghost use Rattle.line_segment.specs.Piece.{HasLength};
 ghost use Rattle.charts.specs.Chart.{most};
 ghost use Rattle.charts.specs.Answer.{room};
 ghost use Rattle.sweep.specs.Run.{is-none};
-ghost use Rattle.segments.specs.Table.{pieceIn, chartIn};
-ghost use Rattle.sweep_arrays.specs.Run.{next-by, onwards, start};
+ghost use Rattle.ported_pieces.specs.Table.{pieceIn, chartIn};
+ghost use Rattle.ported_arrays.specs.Run.{next-by, onwards, start};
 ghost use Rattle.bentley_ottmann.specs.Running.{places, lastAt, Begun, Stopped};
 use crate::Last;
 use charts::MOST;
-use event_queue::Next;
 use fractions::Point;
-use visit::step;
+use ported_queue::Next;
+use ported_step::step;
 
 // A place for every pair.
 const PLACES: usize = MOST * (MOST - 1) / 2;
@@ -37,7 +37,7 @@ fn last_at(steps: u32, p: Point) -> Last
 fn is_empty(table: &[i16], ends: &[u16], passed: usize, waiting: &[u16], head: usize) -> bool
     ensures { λ r. ⌜ ((n : ℕ) → r ≡ is-none (chartIn n (now (table .entry))) (next-by (chartIn n (now (table .entry))) (drop passed (now (ends .entry))) (drop head (now (waiting .entry))))) ⌝ }
 {
-    match event_queue::next_point(table, ends, passed, waiting, head) {
+    match ported_queue::next_point(table, ends, passed, waiting, head) {
         Next::Nothing => true,
         Next::At(_) => false,
     }
@@ -63,7 +63,7 @@ fn go(
     let mut steps: u32 = 0;
     let mut last = Point { x: 0, y: 0, d: 0 };
     while steps < budget {
-        match event_queue::next_point(table, ends, passed, waiting, head) {
+        match ported_queue::next_point(table, ends, passed, waiting, head) {
             Next::Nothing => {
                 return Stop {
                     end,
@@ -113,7 +113,7 @@ pub fn run(table: &[i16], n: usize, budget: u32, bytes: &mut [u8]) -> Stop
     let mut marks = [0u8; MOST * MOST];
     let mut waiting = [0u16; PLACES];
     let count = 2 * n;
-    event_queue::order_ends(table, &mut ends[..count]);
+    ported_queue::order_ends(table, &mut ends[..count]);
     go(
         table,
         &ends[..count],

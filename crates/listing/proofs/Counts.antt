@@ -23,7 +23,7 @@ use Rattle.sweep.specs.Demand.{AlwaysPromises}
 use Rattle.sweep.proofs.Lists.{keep-fewer}
 use Rattle.sweep.proofs.Pairs.{upto-length}
 use Rattle.sweep.proofs.Occurring.{all-in}
-use Rattle.sweep_arrays.proofs.Distinct.{distinct-fit}
+use Rattle.ported_arrays.proofs.Distinct.{distinct-fit}
 use Rattle.sweep_geometry.proofs.Promises.{ported-always}
 use Rattle.sweep_geometry.proofs.Accepted.{list-proper}
 use Rattle.listing.specs.Listing.{largest}

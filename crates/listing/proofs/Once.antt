@@ -12,9 +12,9 @@ use Rattle.decimals.proofs.put_word.Reads as put-word
 use Rattle.decimals.proofs.put_natural.Reads as put-natural
 use Rattle.decimals.proofs.put_integer.Reads as put-integer
 use Rattle.units.proofs.nearest_unit.Reads as nearest-unit
-use Rattle.lines.proofs.put_count.Reads as put-count
-use Rattle.lines.proofs.put_complete.Reads as put-complete
-use Rattle.lines.proofs.put_pairs.Reads as put-pairs
+use Rattle.listing_lines.proofs.put_count.Reads as put-count
+use Rattle.listing_lines.proofs.put_complete.Reads as put-complete
+use Rattle.listing_lines.proofs.put_pairs.Reads as put-pairs
 use Rattle.listing.proofs.put_listing.Reads as put-listing
 
 one-text : {x y : ℕ} {b c : List ℕ} {t : Text} → text b x ≡ t → text c y ≡ t → (x ≡ y) × (b ≡ c)

@@ -20,10 +20,10 @@ use Rattle.sweep.specs.Lists.{Pair}
 use Rattle.sweep.specs.Run.{answer}
 use Rattle.sweep.specs.Ported.{ported}
 use Rattle.decimals.specs.Text.{ascii}
-use Rattle.lines.specs.Lines.{countLine, pairLine, pairLines}
+use Rattle.listing_lines.specs.Lines.{countLine, pairLine, pairLines}
 use Rattle.listing.specs.Listing.{largest, chartLines, chartText, textOf, listingOf, longestText}
 use Rattle.listing.specs.Demand.{Fits}
-use Rattle.lines.proofs.Widths.{count-width, complete-width, pair-width}
+use Rattle.listing_lines.proofs.Widths.{count-width, complete-width, pair-width}
 use Rattle.listing.proofs.Counts.{always, listed-few, steps-few}
 
 -- ---- a chart

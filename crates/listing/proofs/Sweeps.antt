@@ -20,7 +20,7 @@ use Rattle.sweep.specs.Run.{answer}
 use Rattle.sweep.specs.Ported.{ported}
 use Rattle.bentley_ottmann.specs.declared.Swept.{Swept}
 use Rattle.bentley_ottmann.specs.Swept.{saying, sweptBy, listedOver, sweepOf, lentAfter}
-use Rattle.lines.specs.Lines.{pairsIn}
+use Rattle.listing_lines.specs.Lines.{pairsIn}
 use Rattle.listing.specs.Listing.{chartLines, largest, chartText}
 use Rattle.listing.proofs.Counts.{room-few, listed-few}
 

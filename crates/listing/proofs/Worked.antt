@@ -29,7 +29,7 @@ use Rattle.sweep.specs.Ported.{isUpright, heightAbove, heightBelow, heightOrder
 use Rattle.decimals.specs.Text.{ascii}
 use Rattle.decimals.specs.Decimal.{digits, decimal, signedDecimal}
 use Rattle.units.specs.Units.{floorOf, nearestUnit}
-use Rattle.lines.specs.Lines.{countLine, completeLine, unitText, pointText, placeText, pairLine, pairLines}
+use Rattle.listing_lines.specs.Lines.{countLine, completeLine, unitText, pointText, placeText, pairLine, pairLines}
 use Rattle.listing.specs.Listing.{chartLines, largest, chartText, textOf, listingOf}
 use Rattle.listing.proofs.Settled.{settled}
 

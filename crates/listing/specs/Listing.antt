@@ -15,7 +15,7 @@ use Rattle.sweep.specs.Lists.{Pair}
 use Rattle.sweep.specs.Run.{answer}
 use Rattle.sweep.specs.Ported.{ported}
 use Rattle.decimals.specs.Text.{ascii}
-use Rattle.lines.specs.Lines.{countLine, completeLine, pairLines}
+use Rattle.listing_lines.specs.Lines.{countLine, completeLine, pairLines}
 
 -- "the piece count; no upright piece; per pair in sweep order ..; steps to the end"
 unfoldable pub chartLines : List ℤ → ℕ → Bool → List Pair → ℕ → List ℕ

@@ -1,5 +1,5 @@
 //! The scope's examples that are not starred, with the answers that stand there: counts 64 and 65,
-//! coordinates 32,767 and 32,768, the upright gap. crates/examples proves the starred ones.
+//! coordinates 32,767 and 32,768, the upright gap. crates/starred proves the starred ones.
 
 use crate::answers::{Answer, Chart, Pair, Point, Refusal, Swept};
 use crate::case::{agree, same};

@@ -1,0 +1,6 @@
+-- From another crate: `use Rattle.listing_lines.proofs.FILE.{..}`.
+--   how long a line is                             Widths   count-width, complete-width, pair-width
+--   inside: pairs in bytes, one after another      Pairs
+pub mod Pairs
+pub mod Widths
+mod Examples

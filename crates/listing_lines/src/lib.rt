@@ -1,0 +1,86 @@
+// The lines of a listing, each put at the end of a text; where the text ends then.
+ghost use mathlib.Core.Path.{_≡_};
+ghost use Rattle.decimals.specs.Text.{text as Text·text, put};
+ghost use Rattle.charts.specs.Piece.{pieceAt};
+ghost use Rattle.place.specs.Place.{whereOf};
+ghost use Rattle.listing_lines.specs.Lines.{countLine, completeLine, unitText, pointText, placeText, pairLine, pairsIn, pairLines};
+use fractions::Point;
+use place::Where;
+
+// A word and a number.
+pub fn put_count(text: &mut [u8], end: usize, word: &[u8], n: u64) -> usize
+    ensures { λ r. ⌜ Text·text (now (text .exit)) r ≡ put (countLine (now (word .entry)) n) (Text·text (now (text .entry)) end) ⌝ }
+{
+    let named = decimals::put_word(text, end, word);
+    let counted = decimals::put_natural(text, named, n);
+    decimals::put_byte(text, counted, b'\n')
+}
+
+pub fn put_complete(text: &mut [u8], end: usize, complete: bool) -> usize
+    ensures { λ r. ⌜ Text·text (now (text .exit)) r ≡ put (completeLine complete) (Text·text (now (text .entry)) end) ⌝ }
+{
+    if complete {
+        return decimals::put_word(text, end, b"complete yes\n");
+    }
+    decimals::put_word(text, end, b"complete no\n")
+}
+
+// x/d in whole units.
+fn put_unit(text: &mut [u8], end: usize, x: i64, d: u64) -> usize
+    ensures { λ r. ⌜ Text·text (now (text .exit)) r ≡ put (unitText x d) (Text·text (now (text .entry)) end) ⌝ }
+{
+    let spaced = decimals::put_byte(text, end, b' ');
+    decimals::put_integer(text, spaced, units::nearest_unit(x, d))
+}
+
+fn put_point(text: &mut [u8], end: usize, p: Point) -> usize
+    ensures { λ r. ⌜ Text·text (now (text .exit)) r ≡ put (pointText p) (Text·text (now (text .entry)) end) ⌝ }
+{
+    let across = put_unit(text, end, p.x, p.d);
+    put_unit(text, across, p.y, p.d)
+}
+
+// Where two pieces meet.
+fn put_place(text: &mut [u8], end: usize, w: Where) -> usize
+    ensures { λ r. ⌜ Text·text (now (text .exit)) r ≡ put (placeText w) (Text·text (now (text .entry)) end) ⌝ }
+{
+    match w {
+        Where::Nothing => end,
+        Where::At(p) => {
+            let said = decimals::put_word(text, end, b" at");
+            put_point(text, said, p)
+        }
+        Where::Along(p, q) => {
+            let said = decimals::put_word(text, end, b" along");
+            let from = put_point(text, said, p);
+            put_point(text, from, q)
+        }
+    }
+}
+
+// The line of pieces a and b of a list.
+fn put_pair(list: &[i32], text: &mut [u8], end: usize, a: u8, b: u8) -> usize
+    ensures { λ r. ⌜ Text·text (now (text .exit)) r ≡ put (pairLine (whereOf (pieceAt (now (list .entry)) a) (pieceAt (now (list .entry)) b)) a b) (Text·text (now (text .entry)) end) ⌝ }
+{
+    let i = a as usize;
+    let j = b as usize;
+    let found = place::exact(charts::piece_at(list, i), charts::piece_at(list, j));
+    let named = decimals::put_word(text, end, b"pair ");
+    let first = decimals::put_natural(text, named, a as u64);
+    let spaced = decimals::put_byte(text, first, b' ');
+    let second = decimals::put_natural(text, spaced, b as u64);
+    let placed = put_place(text, second, found);
+    decimals::put_byte(text, placed, b'\n')
+}
+
+// The lines of pairs of pieces, two bytes a pair, in their order.
+pub fn put_pairs(list: &[i32], pairs: &[u8], text: &mut [u8], end: usize) -> usize
+    ensures { λ r. ⌜ Text·text (now (text .exit)) r ≡ put (pairLines (now (list .entry)) (pairsIn (now (pairs .entry)))) (Text·text (now (text .entry)) end) ⌝ }
+{
+    let count = pairs.len() / 2;
+    let mut next = end;
+    for k in 0..count {
+        next = put_pair(list, text, next, pairs[2 * k], pairs[2 * k + 1]);
+    }
+    next
+}

@@ -1,0 +1,4 @@
+-- What the queue's contracts cite beside `ported_arrays`.
+pub mod Places
+pub mod Next
+pub mod Passing

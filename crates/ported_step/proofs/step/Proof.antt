@@ -1,0 +1,118 @@
+-- `ported_step::step` meets its contract: the parts come together to the step on arrays.
+use mathlib.Core.Path.{_∙_}
+use native.Mathlib.Omega.{arith}
+use lib.ListN.{drop}
+use Rattle.ported_step.proofs.Assembling.{passed-in, assembled}
+use borrow.Author.Needs.{needs}
+use Rattle.ported_step.proofs.step.Statement.{statement}
+use Rattle.ported_step.proofs.step.Tie as tie
+use Rattle.ported_step.proofs.step.Reads as reads
+use Rattle.ported_step.proofs.step.Lts as lts
+use Rattle.ported_step.proofs.gather.Reads as gather-reads
+use Rattle.ported_step.proofs.report.report_all.Reads as report-all-reads
+use Rattle.ported_step.proofs.turn.Reads as turn-reads
+use Rattle.ported_queue.proofs.pass_crossings.Reads as pass-crossings-reads
+use Rattle.ported_queue.proofs.pass_ends.Reads as pass-ends-reads
+
+slice-aggregate-pass-ends : tie.Need-slice-aggregate-pass-ends
+slice-aggregate-pass-ends c = search needs
+
+slice-aggregate-pass-ends-2 : tie.Need-slice-aggregate-pass-ends-2
+slice-aggregate-pass-ends-2 c = search needs
+
+pass-ends-requires : tie.Need-pass-ends-requires
+pass-ends-requires c κs = search needs
+
+slice-aggregate-pass-crossings : tie.Need-slice-aggregate-pass-crossings
+slice-aggregate-pass-crossings c = search needs
+
+pass-crossings-requires : tie.Need-pass-crossings-requires
+pass-crossings-requires c κs = search needs
+
+slice-aggregate-gather : tie.Need-slice-aggregate-gather
+slice-aggregate-gather c = search needs
+
+gather-requires : tie.Need-gather-requires
+gather-requires c κs =
+    let st = c .before .before .before .before .before .before .before .before .before .before .before .before .before .before .before .before .before .before .before .before in
+    let e = c .before .before .before .before .before .before .before .before .before .before .before .before .pass-ends .ensures .0 0 in
+    let w = c .before .before .before .before .before .before .pass-crossings .ensures .0 0 in
+    (e .onwards, e .within, λ x m. st .pre .2 x (passed-in e m), w .onwards, w .within, λ x m. st .pre .7 x (passed-in w m), st .pre .3, omega arith)
+
+slice-aggregate-report-all : tie.Need-slice-aggregate-report-all
+slice-aggregate-report-all c = search needs
+
+report-all-requires : tie.Need-report-all-requires
+report-all-requires c κs = search needs
+
+slice-aggregate-turn : tie.Need-slice-aggregate-turn
+slice-aggregate-turn c = search needs
+
+slice-aggregate-turn-2 : tie.Need-slice-aggregate-turn-2
+slice-aggregate-turn-2 c = search needs
+
+slice-aggregate-turn-3 : tie.Need-slice-aggregate-turn-3
+slice-aggregate-turn-3 c = search needs
+
+slice-aggregate-turn-4 : tie.Need-slice-aggregate-turn-4
+slice-aggregate-turn-4 c = search needs
+
+turn-requires : tie.Need-turn-requires
+turn-requires c κs =
+    let st = c .before .before .before .before .before .before .before .before .before .before .before .before .before .before .before .before .before .before .before .before .before .before .before .before .before .before .before .before .before .before .before .before .before .before .before .before .before .before in
+    let g = c .before .before .before .before .before .before .before .before .before .before .before .before .before .before .before .before .before .gather .ensures in
+    (st .pre .3, omega (arith, g .within, g .long), (c .before .before .before .before .before .before .before .before .before .before .before .before .before .before .before .before .before .before .before .before .before .before .before .before .pass-crossings .ensures .0 0) .within, st .pre .6)
+
+same-length : tie.Need-same-length
+same-length c = search needs
+
+same-length-2 : tie.Need-same-length-2
+same-length-2 c = c .before .before .before .before .before .marks3 .given ∙ c .before .before .before .before .before .before .before .before .before .before .before .before .before .before .before .before .before .before .before .before .marks2 .given ∙ c .before .before .before .before .before .before .before .before .before .before .before .before .before .before .before .before .before .before .before .before .before .before .before .before .before .before .before .before .before .before .before .marks .given
+
+same-length-3 : tie.Need-same-length-3
+same-length-3 c = search needs
+
+same-length-4 : tie.Need-same-length-4
+same-length-4 c = search needs
+
+returns : tie.Need-returns
+returns c =
+    let st = c .before .before .before .before .before .before .before .before .before .before .before .before .before .before .before .before .before .before .before .before .before .before .before .before .before .before .before .before .before .before .before .before .before .before .before .before .before .before .before .before .before .before .before .before .before .before .before in
+    let pe = c .before .before .before .before .before .before .before .before .before .before .before .before .before .before .before .before .before .before .before .before .before .before .before .before .before .before .before .before .before .before .before .before .before .before .before .before .before .before .before .pass-ends .ensures in
+    let pc = c .before .before .before .before .before .before .before .before .before .before .before .before .before .before .before .before .before .before .before .before .before .before .before .before .before .before .before .before .before .before .before .before .before .pass-crossings .ensures in
+    let g = c .before .before .before .before .before .before .before .before .before .before .before .before .before .before .before .before .before .before .before .before .before .before .before .before .before .before .gather .ensures in
+    let t = c .before .before .before .before .before .before .before .before .turn .ensures in (
+      (pe .0 0) .within,
+      t .0,
+      t .1,
+      λ n last steps.
+          assembled n (st .args .table .now) (st .args .p) (st .args .ends .now) (st .args .active .now) (st .args .marks .now) (st .args .waiting .now) (st .args .bytes .now)
+          (st .args .passed) (st .args .live) (st .args .head) (st .args .end) last steps _ _ (pe .0 n) (pc .0 n) _ _ _ _ _ (pe .1) (pe .2) (pc .1) (pc .2) (g .list) _ _ _ _ (st .pre .4)
+          (c .before .before .before .before .before .before .before .before .before .before .before .before .before .before .before .before .before .before .before .before .before .report-all .ensures n (drop (c .before .before .before .before .before .before .before .before .before .before .before .before .before .before .before .before .before .before .before .before .before .before .before .before .before .before .before .before .before .before .before .before .before .pass-crossings .result) (st .args .waiting .now)) (c .before .before .before .before .before .before .before .before .before .before .before .before .before .before .before .before .before .before .before .before .before .before .before .before .before .before .before .before .before .before .before .before .before .pass-crossings .result))
+          (t .2)
+          (t .3 n),
+    )
+
+pub step-spec : {M : Type 1} → statement M
+step-spec =
+    tie.close
+    (tie.spec
+    slice-aggregate-pass-ends
+    slice-aggregate-pass-ends-2
+    pass-ends-requires
+    slice-aggregate-pass-crossings
+    pass-crossings-requires
+    slice-aggregate-gather
+    gather-requires
+    slice-aggregate-report-all
+    report-all-requires
+    slice-aggregate-turn
+    slice-aggregate-turn-2
+    slice-aggregate-turn-3
+    slice-aggregate-turn-4
+    turn-requires
+    same-length
+    same-length-2
+    same-length-3
+    same-length-4
+    returns)

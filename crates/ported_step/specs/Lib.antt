@@ -1,0 +1,2 @@
+-- What the contracts of a visit cite beside `ported_arrays`.
+pub mod Views

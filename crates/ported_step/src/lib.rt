@@ -1,0 +1,160 @@
+// One visit of the sweep, after the Rust's bentley_ottmann.rs: a step at the least point that is left.
+mod examine;
+mod ledger;
+mod report;
+
+ghost use mathlib.Core.Path.{_≡_};
+ghost use Prim.Native.Nat.{ℕ, _*_, _≤_, suc};
+ghost use lib.ListN.{length, take, drop};
+ghost use Rattle.ported_pieces.specs.Table.{chartIn};
+ghost use Rattle.sweep.specs.Lists.{adjacent, keep};
+ghost use Rattle.sweep.specs.Step.{each};
+ghost use Rattle.ported_arrays.specs.Ledger.{examine};
+ghost use Rattle.ported_step.specs.Views.{ledger, rangedOf, sheet};
+ghost use lib.Seq.{slice};
+ghost use mathlib.Core.List.{_++_};
+ghost use Rattle.charts.specs.Chart.{most};
+ghost use Rattle.ported_arrays.specs.Event.{halves, pieces, step as stepOn};
+ghost use Rattle.ported_active.specs.Joined.{Joined, AllBelow};
+ghost use Rattle.ported_active.specs.Roles.{staysBy, entersBy, containsIn};
+ghost use mathlib.Core.Option.{Option, some};
+use charts::MOST;
+use examine::examine_all;
+use fractions::Point;
+use report::report_all;
+
+// The pieces at p, in number order: those of the ends and of the crossings that were passed, and the active ones that
+// contain p.
+fn gather(
+    table: &[i16],
+    p: Point,
+    ends: &[u16],
+    e0: usize,
+    e1: usize,
+    waiting: &[u16],
+    w0: usize,
+    w1: usize,
+    active: &[u8],
+    live: usize,
+    here: &mut [u8],
+    h: usize,
+) -> usize
+    requires { ⌜ (e0 ≤ e1) × (e1 ≤ length (now ends)) × AllBelow (2 * most) (slice e0 e1 (now ends)) × (w0 ≤ w1) × (w1 ≤ length (now waiting)) × AllBelow (most * most) (slice w0 w1 (now waiting)) × (live ≤ length (now active)) × (h ≤ length (now here)) ⌝ }
+    ensures { λ r. ⌜ Joined (halves (slice e0 e1 (now (ends .entry))) ++ (pieces (slice w0 w1 (now (waiting .entry))) ++ keep (containsIn (now (table .entry)) p) (take live (now (active .entry))))) (now (here .entry)) h (now (here .exit)) r ⌝ }
+{
+    let a = ported_active::join_ends(ends, e0, e1, here, h);
+    let b = ported_active::join_crossings(waiting, w0, w1, here, a);
+    ported_active::join_active(table, p, active, live, here, b)
+}
+
+// How many pieces are active, where the waiting pairs begin and where the list ends.
+pub struct Turned {
+    pub live: usize,
+    pub head: usize,
+    pub end: usize,
+}
+
+// Finishing and crossing pieces leave, adjacent pairs are examined; starting and crossing ones enter, the active list is
+// sorted, and adjacent pairs are examined again.
+fn turn(
+    table: &[i16],
+    p: Point,
+    active: &mut [u8],
+    live: usize,
+    here: &[u8],
+    h: usize,
+    starting: &[u8],
+    finishing: &[u8],
+    turning: &[u8],
+    marks: &mut [u8],
+    waiting: &mut [u16],
+    head: usize,
+    bytes: &mut [u8],
+    end: usize,
+) -> Turned
+    requires { ⌜ (live ≤ length (now active)) × (h ≤ length (now here)) × (head ≤ length (now waiting)) × (length (now waiting) ≤ 65536) ⌝ }
+    ensures { λ r. ⌜ (r .live ≤ length (now (active .entry))) × (r .head ≤ length (now (waiting .entry))) × (take (r .live) (now (active .exit)) ≡ rangedOf (now (table .entry)) p (length (now (active .entry))) (keep (staysBy (now (finishing .entry)) (now (turning .entry))) (take live (now (active .entry)))) (keep (entersBy (now (starting .entry)) (now (finishing .entry)) (now (turning .entry))) (drop h (now (here .entry))))) × ((n : ℕ) → ledger (now (marks .exit)) (now (waiting .exit)) (r .head) (now (bytes .exit)) (r .end) ≡ each (examine (chartIn n (now (table .entry))) p) (adjacent (take (r .live) (now (active .exit)))) (each (examine (chartIn n (now (table .entry))) p) (adjacent (keep (staysBy (now (finishing .entry)) (now (turning .entry))) (take live (now (active .entry))))) (ledger (now (marks .entry)) (now (waiting .entry)) head (now (bytes .entry)) end))) ⌝ }
+{
+    let stay = ported_active::leave(active, live, finishing, turning);
+    let first = examine_all(table, p, active, stay, marks, waiting, head, bytes, end);
+    let now_live = ported_active::enter(active, stay, here, h, starting, finishing, turning);
+    ported_active::resort(table, p, active, now_live);
+    let from = first.head;
+    let to = first.end;
+    let second = examine_all(table, p, active, now_live, marks, waiting, from, bytes, to);
+    Turned {
+        live: now_live,
+        head: second.head,
+        end: second.end,
+    }
+}
+
+// How many ends are passed and pieces active, where the waiting pairs begin and where the list ends.
+pub struct At {
+    pub passed: usize,
+    pub live: usize,
+    pub head: usize,
+    pub end: usize,
+}
+
+// One step, at the least point that is left.
+pub fn step(
+    table: &[i16],
+    p: Point,
+    ends: &[u16],
+    passed: usize,
+    active: &mut [u8],
+    live: usize,
+    marks: &mut [u8],
+    waiting: &mut [u16],
+    head: usize,
+    bytes: &mut [u8],
+    end: usize,
+) -> At
+    requires { ⌜ (passed ≤ length (now ends)) × (length (now ends) ≤ 65536) × AllBelow (2 * most) (drop passed (now ends)) × (live ≤ length (now active)) × (length (now active) ≡ most) × (head ≤ length (now waiting)) × (length (now waiting) ≤ 65536) × AllBelow (most * most) (drop head (now waiting)) ⌝ }
+    ensures { λ r. ⌜ (r .passed ≤ length (now (ends .entry))) × (r .live ≤ length (now (active .entry))) × (r .head ≤ length (now (waiting .entry))) × ((n : ℕ) (last : Option Point) (steps : ℕ) → sheet n (now (table .entry)) (now (ends .entry)) (r .passed) (now (active .exit)) (r .live) (ledger (now (marks .exit)) (now (waiting .exit)) (r .head) (now (bytes .exit)) (r .end)) (some p) (suc steps) ≡ stepOn (chartIn n (now (table .entry))) (sheet n (now (table .entry)) (now (ends .entry)) passed (now (active .entry)) live (ledger (now (marks .entry)) (now (waiting .entry)) head (now (bytes .entry)) end) last steps) p) ⌝ }
+{
+    let mut starting = [0u8; MOST];
+    let mut finishing = [0u8; MOST];
+    let mut turning = [0u8; MOST];
+    let mut here = [0u8; MOST];
+    let e1 = ported_queue::pass_ends(table, p, ends, passed, &mut starting, &mut finishing);
+    let w1 = ported_queue::pass_crossings(table, p, waiting, head, &mut turning, marks);
+    let h = gather(
+        table,
+        p,
+        ends,
+        passed,
+        e1,
+        waiting,
+        head,
+        w1,
+        active,
+        live,
+        &mut here,
+        MOST,
+    );
+    let listed = report_all(table, &here, h, marks, bytes, end);
+    let turned = turn(
+        table,
+        p,
+        active,
+        live,
+        &here,
+        h,
+        &starting,
+        &finishing,
+        &turning,
+        marks,
+        waiting,
+        w1,
+        bytes,
+        listed,
+    );
+    At {
+        passed: e1,
+        live: turned.live,
+        head: turned.head,
+        end: turned.end,
+    }
+}

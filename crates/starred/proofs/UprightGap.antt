@@ -1,0 +1,22 @@
+-- The upright gap, checked.
+use mathlib.Core.Path.{ap}
+use Rattle.charts.specs.Fault.{outside, offRange, eqZ, sameEnds, faultOf}
+use Rattle.charts.specs.Chart.{numberAt, faultAt, pieces, verdictOf}
+use Rattle.charts.specs.Piece.{pieceAt}
+use Rattle.charts.specs.Answer.{room, listingOf}
+use Rattle.naive.specs.Pairs.{bytes, over}
+use Rattle.naive.proofs.Examples.{examples}
+use Rattle.sweep.specs.Ported.{ported}
+use Rattle.sweep.specs.Run.{Answer}
+use Rattle.bentley_ottmann.specs.Swept.{saying, sweptBy, listedOver, sweepOf, lentAfter}
+use Rattle.starred.specs.UprightGap.{gap, lent, UprightGap}
+use Rattle.starred.proofs.Sweeps.{sweeps}
+
+pub upright-gap : UprightGap
+unfolding outside offRange eqZ sameEnds faultOf numberAt faultAt pieces verdictOf room listingOf bytes over sweptBy listedOver sweepOf lentAfter
+upright-gap = record {
+  all-pairs = examples .gap-answer;
+  all-list = examples .gap-bytes;
+  swept = ap (saying 3 (pieceAt gap)) (sweeps .gap-nine);
+  swept-list = ap (λ (a : Answer (ported 3 (pieceAt gap))). over (bytes (a .listed)) lent) (sweeps .gap-nine);
+}

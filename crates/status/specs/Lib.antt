@@ -1,3 +1,0 @@
--- What the contracts of the active list cite beside the definitions of `sweep_arrays`.
-pub mod Roles
-pub mod Joined

@@ -1,2 +1,0 @@
--- What the contracts of a visit cite beside `sweep_arrays`.
-pub mod Views
