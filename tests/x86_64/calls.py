@@ -1,91 +1,90 @@
 #!/usr/bin/env python3
 """calls.py near|far HEADER: writes a C program that hands the calls of a header on, or one that is handed them.
 
-`near` has every call of the header: it sends the call's number, its plain arguments and what its pointers lead to down a
-pipe, and waits for the answer and for what was lent. `far` reads that, calls the library and sends both back. A pointer's
-length is the argument behind it. Structs pass as they lie in memory: both processors lay them out alike."""
+`near` has every call of the header: it writes the call's number, its plain arguments and what its pointers lead to into
+memory that both share, and waits for the answer and for what was lent. `far` reads that, calls the library and writes both
+back. A pointer's length is the argument behind it. Structs pass as they lie in memory: both processors lay them out alike."""
 
 import re
 import sys
 
-NEAR = r"""#include <pthread.h>
+# What both sides know of the memory that they share: whose turn it is, and a message.
+SHARED = r"""#include <linux/futex.h>
+#include <sched.h>
+#include <stdatomic.h>
 #include <stdio.h>
 #include <stdlib.h>
+#include <string.h>
+#include <sys/mman.h>
+#include <sys/syscall.h>
 #include <unistd.h>
 #include "mirtalughe.h"
 
-static pthread_mutex_t turn = PTHREAD_MUTEX_INITIALIZER;
-static int to[2] = {-1, -1}, from[2];
-static char message[1 << 20];
-static size_t filled;
+enum { ROOM = 1 << 20, NEAR = 0, FAR = 1 };
+
+typedef struct {
+    _Atomic int turn;
+    char message[ROOM];
+} shared;
+
+static void hand_over(shared *s, int to) {
+    atomic_store(&s->turn, to);
+    syscall(SYS_futex, &s->turn, FUTEX_WAKE, 1, NULL, NULL, 0);
+}
+
+/* Waits for a turn, at first without sleeping. */
+static void wait_for(shared *s, int whose) {
+    for (int k = 0; atomic_load(&s->turn) != whose; k++) {
+        if (k < 500) continue;
+        if (k < 520) sched_yield();
+        else syscall(SYS_futex, &s->turn, FUTEX_WAIT, !whose, NULL, NULL, 0);
+    }
+}
+
+static void put(char **at, const void *from, size_t size) { memcpy(*at, from, size); *at += size; }
+
+static void get(char **at, void *to, size_t size) { memcpy(to, *at, size); *at += size; }
+"""
+
+NEAR = r"""#include <sys/prctl.h>
+#include <signal.h>
+
+/* One program for each thread, which ends with it. */
+static _Thread_local shared *far;
 
 static void stop(const char *what) { perror(what); abort(); }
 
-static void start(void) {
-    pthread_mutex_lock(&turn);
-    if (to[0] < 0) {
-        if (pipe(to) || pipe(from)) stop("pipe");
+static char *start(void) {
+    if (!far) {
+        int file = memfd_create("calls", 0);
+        if (file < 0 || ftruncate(file, sizeof(shared))) stop("memfd");
+        far = mmap(NULL, sizeof(shared), PROT_READ | PROT_WRITE, MAP_SHARED, file, 0);
+        if (far == MAP_FAILED) stop("mmap");
         pid_t child = fork();
         if (child < 0) stop("fork");
         if (child == 0) {
-            dup2(to[0], 0); dup2(from[1], 1);
-            close(to[0]); close(to[1]); close(from[0]); close(from[1]);
-            execl(RUN, RUN, FAR, (char *)0);
+            char name[16];
+            prctl(PR_SET_PDEATHSIG, SIGKILL);
+            sprintf(name, "%d", file);
+            execl(RUN, RUN, LIBRARY, name, (char *)0);
             stop(RUN);
         }
-        close(from[1]);
+        close(file);
     }
-    filled = 0;
+    return far->message;
 }
 
-static void put(const void *at, size_t size) {
-    const char *b = at;
-    if (size > sizeof message - filled) { fputs("a call is too long\n", stderr); abort(); }
-    for (size_t k = 0; k < size; k++) message[filled++] = b[k];
-}
-
-static void send_all(void) {
-    for (size_t done = 0; done < filled;) {
-        ssize_t n = write(to[1], message + done, filled - done);
-        if (n <= 0) stop("write");
-        done += (size_t)n;
-    }
-}
-
-static void get(void *at, size_t size) {
-    for (size_t done = 0; done < size;) {
-        ssize_t n = read(from[0], (char *)at + done, size - done);
-        if (n <= 0) { fputs("the library's program has ended\n", stderr); abort(); }
-        done += (size_t)n;
-    }
+static void room_for(char *at, size_t size) {
+    if (size > (size_t)(far->message + ROOM - at)) { fputs("a call is too long\n", stderr); abort(); }
 }
 """
 
-FAR = r"""#include <stdlib.h>
-#include <unistd.h>
-#include "mirtalughe.h"
-
-static char answer[1 << 20];
-static size_t filled;
-
-static void get(void *at, size_t size) {
-    for (size_t done = 0; done < size;) {
-        ssize_t n = read(0, (char *)at + done, size - done);
-        if (n <= 0) exit(0);
-        done += (size_t)n;
-    }
-}
-
-static void put(const void *at, size_t size) {
-    const char *b = at;
-    if (size > sizeof answer - filled) abort();
-    for (size_t k = 0; k < size; k++) answer[filled++] = b[k];
-}
-
-static void *room(size_t count, size_t size) {
-    void *at = malloc(count * size + 1);
-    if (!at) abort();
-    return at;
+FAR = r"""
+static void *copy(char **at, size_t size) {
+    void *made = malloc(size + 1);
+    if (!made) abort();
+    get(at, made, size);
+    return made;
 }
 """
 
@@ -111,50 +110,60 @@ def calls(header):
 
 def near(call):
     yield f"\n{call.answer} {call.name}({call.parameters}) {{"
-    yield f"    unsigned char number = {call.number};"
-    yield "    start();\n    put(&number, 1);"
+    yield f"    char *at = start();\n    unsigned char byte = {call.number};"
+    yield "    put(&at, &byte, 1);"
     for _, name in call.plain:
-        yield f"    put(&{name}, sizeof {name});"
+        yield f"    put(&at, &{name}, sizeof {name});"
     for _, _, name, length in call.lent:
-        yield f"    number = {name} != NULL;\n    put(&number, 1);"
-        yield f"    if ({name}) put({name}, {length} * sizeof *{name});"
-    yield f"    {call.answer} answer;\n    send_all();\n    get(&answer, sizeof answer);"
+        yield f"    byte = {name} != NULL;\n    put(&at, &byte, 1);"
+        yield f"    if ({name}) room_for(at, {length} * sizeof *{name}), put(&at, {name}, {length} * sizeof *{name});"
+    yield f"    {call.answer} answer;\n    hand_over(far, FAR);\n    wait_for(far, NEAR);\n    at = far->message;"
+    yield "    get(&at, &answer, sizeof answer);"
     for changes, _, name, length in call.lent:
         if changes:
-            yield f"    if ({name}) get({name}, {length} * sizeof *{name});"
-    yield "    pthread_mutex_unlock(&turn);\n    return answer;\n}"
+            yield f"    if ({name}) get(&at, {name}, {length} * sizeof *{name});"
+    yield "    return answer;\n}"
 
 
 def far(call):
-    yield f"\nstatic void call_{call.number}(void) {{\n    unsigned char given;"
+    yield f"\nstatic void call_{call.number}(char *message) {{\n    char *at = message + 1;"
     for kind, name in call.plain:
-        yield f"    {kind} {name};\n    get(&{name}, sizeof {name});"
+        yield f"    {kind} {name};\n    get(&at, &{name}, sizeof {name});"
     for _, kind, name, length in call.lent:
-        yield f"    {kind} *{name} = NULL;\n    get(&given, 1);"
-        yield f"    if (given) {name} = room({length}, sizeof *{name}), get({name}, {length} * sizeof *{name});"
+        yield f"    {kind} *{name} = *at++ ? copy(&at, {length} * sizeof *{name}) : NULL;"
     arguments = ", ".join(name for _, _, _, name in call.arguments)
-    yield f"    {call.answer} answer_{call.number} = {call.name}({arguments});"
-    yield f"    put(&answer_{call.number}, sizeof answer_{call.number});"
+    yield f"    {call.answer} answer = {call.name}({arguments});\n    at = message;\n    put(&at, &answer, sizeof answer);"
     for changes, _, name, length in call.lent:
         if changes:
-            yield f"    if ({name}) put({name}, {length} * sizeof *{name});"
+            yield f"    if ({name}) put(&at, {name}, {length} * sizeof *{name});"
         yield f"    free({name});"
-    yield "    (void)given;\n}"
+    yield "}"
+
+
+MAIN = r"""
+int main(int count, char **words) {
+    if (count != 2) return 2;
+    shared *s = mmap(NULL, sizeof(shared), PROT_READ | PROT_WRITE, MAP_SHARED, atoi(words[1]), 0);
+    if (s == MAP_FAILED) return 1;
+    for (;;) {
+        wait_for(s, FAR);
+        switch (s->message[0]) {
+%s
+        default: abort();
+        }
+        hand_over(s, NEAR);
+    }
+}"""
 
 
 def main():
     which, header = sys.argv[1:]
     found = calls(header)
-    print(NEAR if which == "near" else FAR)
+    print(SHARED + (NEAR if which == "near" else FAR))
     for call in found:
         print("\n".join(near(call) if which == "near" else far(call)))
     if which == "far":
-        print("\nint main(void) {\n    for (;;) {\n        unsigned char number;\n        get(&number, 1);\n        filled = 0;\n        switch (number) {")
-        for call in found:
-            print(f"        case {call.number}: call_{call.number}(); break;")
-        print("        default: abort();\n        }")
-        print("        for (size_t done = 0; done < filled;) {\n            ssize_t n = write(1, answer + done, filled - done);")
-        print("            if (n <= 0) return 1;\n            done += (size_t)n;\n        }\n    }\n}")
+        print(MAIN % "\n".join(f"        case {call.number}: call_{call.number}(s->message); break;" for call in found))
 
 
 main()
