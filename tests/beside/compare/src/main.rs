@@ -106,7 +106,9 @@ fn main() -> ExitCode {
 }
 
 fn usage() -> ExitCode {
-  eprintln!("usage: compare gate [SHARE] | long SEED COUNT | record FOLDER | listing FILE | bench FOLDER");
+  eprintln!(
+    "usage: compare gate [SHARE] | long SEED COUNT | record FOLDER | listing FILE | bench FOLDER"
+  );
   ExitCode::from(2)
 }
 
@@ -125,10 +127,19 @@ fn gate(share: usize) -> Vec<Family> {
     kept(),
     thinned(tiny(), share),
     thinned(grid_pairs(), share),
-    thinned(random("degenerate", GATE_SEED, 17_000, charts::degenerate), share),
-    random("extreme", GATE_SEED, 3_000, charts::extreme),
-    random("near-tied", GATE_SEED, 2_000, charts::near_ties),
-    random("half-way", GATE_SEED, 2_000, charts::near_halves),
+    thinned(
+      random("degenerate", GATE_SEED, 17_000, charts::degenerate),
+      share,
+    ),
+    thinned(random("extreme", GATE_SEED, 3_000, charts::extreme), share),
+    thinned(
+      random("near-tied", GATE_SEED, 2_000, charts::near_ties),
+      share,
+    ),
+    thinned(
+      random("half-way", GATE_SEED, 2_000, charts::near_halves),
+      share,
+    ),
     random("any-size", GATE_SEED, 300, charts::any_size),
     random("full-size", GATE_SEED, 1_000, charts::full_size),
   ]
