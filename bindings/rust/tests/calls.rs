@@ -139,10 +139,10 @@ fn booster_fan() {
     Some([numbers.next()?.ok()?, numbers.next()?.ok()?])
   };
   let listed: Vec<Pair> = listing.lines().filter_map(pair).collect();
-  assert_eq!(listed.len(), 29);
+  assert_eq!(listed.len(), 27);
   let mut lent = vec![0; pairs_room(pieces.len())];
   let swept = sweep(list, u32::MAX, &mut lent).unwrap();
-  assert_eq!((swept.pairs, swept.steps, swept.complete), (&listed[..], 45, true));
+  assert_eq!((swept.pairs, swept.steps, swept.complete), (&listed[..], 39, true));
   let found = all_pairs(list, &mut lent).unwrap().iter().map(|[a, b]| [*b, *a]);
   assert_eq!(found.collect::<BTreeSet<Pair>>(), listed.into_iter().collect());
 }
