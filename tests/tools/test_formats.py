@@ -143,12 +143,12 @@ class File(unittest.TestCase):
     def test_what_is_told(self):
         for data, said in (
             ("", "byte 0: the count is due (refused 1: "),
-            ("41", "byte 0: the count is 65 (refused 3: the count is above 64)"),
+            ("41", "byte 0: the count is 65 (refused 3: count above 64)"),
             ("01 03 02", "byte 3: y1 of piece 0 is due (refused 1: "),
             ("01 03 02 80", "byte 3: y1 of piece 0 is cut (refused 1: "),
             ("01 03 80 00", "byte 2: x1 of piece 0 has a group too many (refused 2: "),
             ("01 03 80 80 80", "byte 2: x1 of piece 0 does not end (refused 2: "),
-            ("01 04", "byte 1: the kind of piece 0 is 4 (refused 4: a kind is outside 0 to 3)"),
+            ("01 04", "byte 1: the kind of piece 0 is 4 (refused 4: kind outside 0 to 3)"),
             ("01 03 80 80 04", "byte 2: x1 of piece 0 is 32768 (refused 5: "),
             ("01 03 FF FF 03", "byte 2: x1 of piece 0 is -32768 (refused 5: "),
             ("01 03 02 04 02 04", "byte 1: both ends of piece 0 are 1 2 (refused 6: "),
@@ -189,7 +189,7 @@ class Listings(unittest.TestCase):
 
     def test_refused(self):
         said = told(listing_of_text, b"refused 3\n")
-        self.assertEqual(said, "line 1: the chart was refused with 3: the count is above 64")
+        self.assertEqual(said, "line 1: the chart was refused with 3: count above 64")
 
     def test_damaged(self):
         sound = b"chart 3\ncomplete yes\npair 0 1 at 2 2\nsteps 5\n"

@@ -1,5 +1,4 @@
-#!/usr/bin/env python3
-"""documents: holds what the documents say twice to what they say once.
+"""map: holds what the documents say twice to what they say once.
 
 docs/PROOFS.md: every statement that a row names stands in one of the row's files, every must-fail edit is there, every edit
 is named in PROOFS.md or ARGUMENT.md, and the line counts are those of the files. With --fix the counts are written anew."""
@@ -7,7 +6,7 @@ import pathlib
 import re
 import sys
 
-ROOT = pathlib.Path(__file__).resolve().parent.parent
+ROOT = pathlib.Path(__file__).resolve().parents[2]
 wrong = []
 
 
@@ -57,7 +56,7 @@ def check_counts(fix):
             if fix:
                 lines[i] = f'{m[1]}{count}{m[4]}'
             else:
-                fail(f'PROOFS.md:{i + 1}: {m[2]} has {count} lines, not {m[3]} (tests/documents --fix)')
+                fail(f'PROOFS.md:{i + 1}: {m[2]} has {count} lines, not {m[3]} (tests/documents/run --fix)')
     if fix:
         path.write_text(''.join(lines))
 
@@ -102,5 +101,5 @@ def check_map():
 check_counts('--fix' in sys.argv[1:])
 check_map()
 for line in wrong:
-    print(f'documents: {line}', file=sys.stderr)
+    print(f'map: {line}', file=sys.stderr)
 sys.exit(1 if wrong else 0)
