@@ -1,10 +1,13 @@
-"""map: every statement that a row of the map in docs/PROOFS.md names stands in one of the row's files, every must-fail edit there
-is one of the crates of these files, and every edit of a crate is named in docs/PROOFS.md or docs/ARGUMENT.md."""
+"""map: every statement that a row of the map in docs/PROOFS.md names stands in one of the row's files, and every must-fail edit
+there is one of the crates of these files. The edits that the map does not name stand in docs/ARGUMENT.md, in the order of
+crates.txt, with what each is about; with --fix that table is written anew."""
 import pathlib
 import re
 import sys
 
 ROOT = pathlib.Path(__file__).resolve().parents[2]
+ARGUMENT = ROOT / "docs/ARGUMENT.md"
+BEGIN, END = "<!-- edits: tests/documents/map.py -->\n\n", "\n<!-- /edits -->\n"
 FILE = re.compile(r"[a-z_]+(/[A-Za-z_/.]+)?")
 wrong = []
 
@@ -56,20 +59,28 @@ def check_map(known):
     return named
 
 
-def check_inner(known):
-    crate, named = "", set()
-    for number, cells in rows((ROOT / "docs/ARGUMENT.md").read_text()):
-        crate = cells[0] or crate
-        for edit in quoted(cells[-1]):
-            if (crate, edit) not in known:
-                wrong.append(f"ARGUMENT.md:{number}: no edit {edit} in {crate}")
-            named.add((crate, edit))
-    return named
+def about(crate, edit):
+    """What the first line of an edit says, or where it is made."""
+    first = (ROOT / f"crates/{crate}/must-fail/{edit}.edit").read_text().splitlines()[0]
+    return first.removeprefix("# ").removeprefix("file: ").removesuffix(".antt")
+
+
+def inner(left):
+    """The table of the edits that are left."""
+    crates = re.findall(r"^(\w+):", (ROOT / "crates.txt").read_text(), re.M)
+    yield "| crate | must-fail edit | what it is about |\n|---|---|---|\n"
+    for crate, edit in sorted(left, key=lambda one: (crates.index(one[0]), one[1])):
+        yield f"| {crate} | `{edit}` | {about(crate, edit)} |\n"
 
 
 known = edits()
-for crate, edit in sorted(known - check_map(known) - check_inner(known)):
-    wrong.append(f"no document names the edit {edit} of {crate}")
+due = BEGIN + "".join(inner(known - check_map(known))) + END
+text = ARGUMENT.read_text()
+told = text[text.index(BEGIN) : text.index(END) + len(END)]
+if "--fix" in sys.argv:
+    ARGUMENT.write_text(text.replace(told, due))
+elif told != due:
+    wrong.append("docs/ARGUMENT.md has another table of the edits that the map does not name; tests/documents/run --fix writes it")
 for line in wrong:
     print(f"map: {line}", file=sys.stderr)
 sys.exit(1 if wrong else 0)
