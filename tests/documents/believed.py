@@ -156,6 +156,8 @@ def source_of(path):
 
 class Specs(dict):
     def __missing__(self, name):
+        if not (ROOT / "crates" / f"{name}.antt").exists():
+            raise SystemExit(f"believed: no file crates/{name}.antt")
         self[name] = Spec(name)
         return self[name]
 

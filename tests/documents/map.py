@@ -80,7 +80,7 @@ told = text[text.index(BEGIN) : text.index(END) + len(END)]
 if "--fix" in sys.argv:
     ARGUMENT.write_text(text.replace(told, due))
 elif told != due:
-    wrong.append("docs/ARGUMENT.md has another table of the edits that the map does not name; tests/documents/run --fix writes it")
+    wrong.append("docs/ARGUMENT.md has another table of edits; tests/documents/run --fix writes it")
 for line in wrong:
     print(f"map: {line}", file=sys.stderr)
 sys.exit(1 if wrong else 0)

@@ -1,5 +1,5 @@
-"""quotes: a sentence in quotation marks in a comment of the crates' specs is one of docs/CHART.md, whole or in parts. Words of a
-listing (`chart 2`, `refused 1`) and a number in front of a row of the table are left out."""
+"""quotes: a sentence in quotation marks in a comment of the crates' specs is one of docs/CHART.md, whole or in parts. Words of
+a listing (`chart 2`, `refused 1`) and a number in front of a row of the table are left out."""
 import pathlib
 import re
 import sys
