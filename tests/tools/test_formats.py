@@ -50,8 +50,9 @@ class Text(unittest.TestCase):
         self.assertEqual(chart_of_text(b"").pieces, [])
 
     def test_count(self):
-        self.assertEqual(len(chart_of_text(b"3 0 0 1 1\n" * 64).pieces), 64)
-        self.assertIn("line 66: piece 64 is one too many", told(chart_of_text, b"#\n" + b"3 0 0 1 1\n" * 65))
+        self.assertEqual(len(chart_of_text(b"3 0 0 1 1\n" * MOST_PIECES).pieces), MOST_PIECES)
+        said = told(chart_of_text, b"#\n" + b"3 0 0 1 1\n" * (MOST_PIECES + 1))
+        self.assertIn(f"line {MOST_PIECES + 2}: piece {MOST_PIECES} is one too many", said)
 
     def test_coordinates(self):
         for at, meaning in enumerate(("x1", "y1", "x2", "y2"), 1):
@@ -103,7 +104,7 @@ class File(unittest.TestCase):
 
     def test_longest(self):
         chart = Chart([Piece(3, LIMIT, LIMIT, -LIMIT, LIMIT)] * MOST_PIECES)
-        self.assertEqual(len(file_of_chart(chart)), 833)
+        self.assertEqual(len(file_of_chart(chart)), 1 + 13 * MOST_PIECES)
 
     def test_round_trips(self):
         for seed in range(300):
