@@ -75,7 +75,7 @@ static void answers_of_meeting(void) {
     mirtalughe_met met = mirtalughe_meeting(overlap, MIRTALUGHE_TWO_PIECES);
     CHECK(met.number == MIRTALUGHE_DONE);
     CHECK(met.place == 0);
-    CHECK(met.meets == MIRTALUGHE_ALONG);
+    CHECK(met.meets == MIRTALUGHE_OVERLAP);
     CHECK(met.min.x == 1);
     CHECK(met.min.y == 2);
     CHECK(!met.min.included);
@@ -83,7 +83,7 @@ static void answers_of_meeting(void) {
     CHECK(met.max.y == 8);
     CHECK(met.max.included);
     met = mirtalughe_meeting(touching, MIRTALUGHE_TWO_PIECES);
-    CHECK(met.meets == MIRTALUGHE_ALONG);
+    CHECK(met.meets == MIRTALUGHE_OVERLAP);
     CHECK(met.min.x == 2 && met.min.y == 1 && met.min.included);
     CHECK(met.max.x == 2 && met.max.y == 1 && met.max.included);
 
@@ -94,7 +94,7 @@ static void answers_of_meeting(void) {
         mirtalughe_meeting(overlap, MIRTALUGHE_TWO_PIECES - 1),
     };
     static const uint8_t due[][3] = {
-        {MIRTALUGHE_DONE, 0, MIRTALUGHE_AT},
+        {MIRTALUGHE_DONE, 0, MIRTALUGHE_CROSSING},
         {MIRTALUGHE_DONE, 0, MIRTALUGHE_NOTHING},
         {MIRTALUGHE_KIND, 1, MIRTALUGHE_NOTHING},
         {MIRTALUGHE_LIST_LENGTH, 0, MIRTALUGHE_NOTHING},

@@ -24,7 +24,7 @@ static void orient(void) { wrong |= mirtalughe_orient(0, 0, 4, 0, 4, 4) != 1; }
 
 static void read(void) { wrong |= mirtalughe_read(file, sizeof file, list, MIRTALUGHE_LIST_ROOM).count != MIRTALUGHE_MOST_PIECES; }
 
-static void meeting(void) { wrong |= mirtalughe_meeting(list, MIRTALUGHE_TWO_PIECES).meets != MIRTALUGHE_AT; }
+static void meeting(void) { wrong |= mirtalughe_meeting(list, MIRTALUGHE_TWO_PIECES).meets != MIRTALUGHE_CROSSING; }
 
 static void place(void) { wrong |= mirtalughe_place(list, MIRTALUGHE_TWO_PIECES).meets != MIRTALUGHE_AT; }
 

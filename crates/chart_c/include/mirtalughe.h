@@ -89,11 +89,13 @@ typedef struct {
     size_t count;
 } mirtalughe_answer;
 
-/* What `meets` is. */
+/* What `meets` is: of mirtalughe_meeting NOTHING, CROSSING or OVERLAP, of mirtalughe_place NOTHING, AT or ALONG. */
 typedef enum {
-    MIRTALUGHE_NOTHING = 0, /* no point lies on both */
-    MIRTALUGHE_AT = 1, /* a crossing: the two lines have one common point, and it lies on both pieces */
-    MIRTALUGHE_ALONG = 2 /* an overlap: both lie on one line and share a stretch of it, or one point of it */
+    MIRTALUGHE_NOTHING = 0, /* no point lies on both pieces */
+    MIRTALUGHE_CROSSING = 1, /* the two lines have one common point, and it lies on both pieces */
+    MIRTALUGHE_OVERLAP = 2, /* both pieces lie on one line and share a stretch of it, or one point of it */
+    MIRTALUGHE_AT = 1, /* a crossing's point */
+    MIRTALUGHE_ALONG = 2 /* an overlap's stretch, from its min to its max */
 } mirtalughe_meets;
 
 typedef struct {
@@ -101,7 +103,7 @@ typedef struct {
     bool included;
 } mirtalughe_end;
 
-/* How two pieces meet. Where `meets` is MIRTALUGHE_ALONG, `min` and `max` are the ends of the common stretch, each
+/* How two pieces meet. Where `meets` is MIRTALUGHE_OVERLAP, `min` and `max` are the ends of the common stretch, each
    with its mark; where the two share one point only, both are that point, included. Else they are zero and false. */
 typedef struct {
     uint8_t number;
