@@ -2,9 +2,18 @@
 program `chart` prints. Whatever is wrong is told with the line or byte at which it stands, and which number it is."""
 import re
 from dataclasses import dataclass, field
+from pathlib import Path
 
-MOST_PIECES = 64
-LIMIT = 32767
+HEADER = Path(__file__).resolve().parents[1] / "crates/chart_c/include/mirtalughe.h"
+
+
+def size(name):
+    """A size of the library's header."""
+    return int(re.search(rf"^#define MIRTALUGHE_{name} (\d+)", HEADER.read_text(), re.M)[1])
+
+
+MOST_PIECES = size("MOST_PIECES")
+LIMIT = size("LIMIT")
 MOST_GROUPS = 3
 NUMBERS = ("kind", "x1", "y1", "x2", "y2")
 

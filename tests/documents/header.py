@@ -54,11 +54,13 @@ def check_refusals():
     for number, (name, when, in_file, in_list) in due.items():
         told = said.get(number, ("", ""))
         same(f"the header's name of {number}", told[0], name.upper().replace(" ", "_"))
-        same(f"the header on {number}", told[1], f"{when}. {place_said(in_file, in_list)}")
+        said_of = told[1].replace("MIRTALUGHE_MOST_PIECES", str(macros()["MOST_PIECES"]))
+        same(f"the header on {number}", said_of, f"{when}. {place_said(in_file, in_list)}")
     refused = {number: row for number, row in due.items() if number}
     source = text_of("bindings/rust/src/refusal.rs")
     faults = {name: int(number) for name, number in re.findall(r"^  (\w+) = (\d+),$", source, re.M)}
-    meanings = dict(re.findall(r'Fault::(\w+) => "(.*?)",$', source, re.M))
+    whole = re.sub(r'concat!\("(.*?)", env!\("MIRTALUGHE_(\w+)"\)\)', lambda m: f'"{m[1]}{macros()[m[2]]}"', source)
+    meanings = dict(re.findall(r'Fault::(\w+) => "(.*?)",$', whole, re.M))
     same("the wrapper's faults", faults, {camel(row[0]): number for number, row in refused.items()})
     same("the wrapper's meanings", meanings, {camel(row[0]): row[1] for row in refused.values()})
     every = re.search(r"ALL: \[Fault; (\d+)\] = \[(.*?)\];", source, re.S)
@@ -85,7 +87,8 @@ def macros():
 def rust_constants(source):
     found = {}
     for name, body in re.findall(r"^pub const (\w+): \w+ = (.+);$", source, re.M):
-        found[name] = eval(body.replace("/", "//"), {"pairs_room": lambda n: n * max(n - 1, 0)}, found)
+        plain = re.sub(r'number\(env!\("MIRTALUGHE_(\w+)"\)\)(?: as i32)?', lambda m: str(macros()[m[1]]), body)
+        found[name] = eval(plain.replace("/", "//"), {"pairs_room": lambda n: n * max(n - 1, 0)}, found)
     return found
 
 
@@ -107,6 +110,8 @@ def check_sizes():
         f"under {due['LIST_ROOM']:,} numbers lent",
     ):
         same("docs/CHART.md has a sentence", sentence in CHART and sentence, sentence)
+    told = re.findall(r"up to ([\d,]+) pieces", text_of("README.md"))
+    same("README.md, up to how many pieces", told, [f"{due['MOST_PIECES']:,}"])
     version = re.search(r'MIRTALUGHE_VERSION "(.*?)"', HEADER)[1]
     same("the header's version", ".".join(str(due[f"VERSION_{part}"]) for part in ("MAJOR", "MINOR", "PATCH")), version)
     same("the wrapper's version", re.search(r'^version = "(.*?)"', text_of("bindings/rust/Cargo.toml"), re.M)[1], version)

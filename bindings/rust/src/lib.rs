@@ -23,14 +23,24 @@ use std::cmp::Ordering;
 
 pub use refusal::{Fault, Given, Refusal};
 
+/// The number that a size of the header is.
+const fn number(digits: &str) -> usize {
+  let (mut value, mut at) = (0, 0);
+  while at < digits.len() {
+    value = 10 * value + (digits.as_bytes()[at] - b'0') as usize;
+    at += 1;
+  }
+  value
+}
+
 /// The most pieces of a chart.
-pub const MOST_PIECES: usize = 64;
+pub const MOST_PIECES: usize = number(env!("MIRTALUGHE_MOST_PIECES"));
 
 /// Coordinates run from -LIMIT to LIMIT.
-pub const LIMIT: i32 = 32_767;
+pub const LIMIT: i32 = number(env!("MIRTALUGHE_LIMIT")) as i32;
 
 /// kind, x1, y1, x2, y2
-pub const PIECE_NUMBERS: usize = 5;
+pub const PIECE_NUMBERS: usize = number(env!("MIRTALUGHE_PIECE_NUMBERS"));
 
 /// How many numbers are lent to [`read`] at least.
 pub const LIST_ROOM: usize = PIECE_NUMBERS * MOST_PIECES;

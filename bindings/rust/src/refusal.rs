@@ -39,7 +39,7 @@ impl Fault {
     match self {
       Fault::FileEnds => "the file ends inside a number or before one that is due",
       Fault::Groups => "the third group has its high bit set, or the last of several groups is zero",
-      Fault::Count => "count above 64",
+      Fault::Count => concat!("count above ", env!("MIRTALUGHE_MOST_PIECES")),
       Fault::Kind => "kind outside 0 to 3",
       Fault::Coordinate => "coordinate out of range",
       Fault::NoLength => "both ends of a piece equal",

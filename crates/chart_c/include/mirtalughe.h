@@ -64,7 +64,7 @@ typedef enum {
     /* the third group has its high bit set, or the last of several groups is zero. Place in a file: where the number
        starts. */
     MIRTALUGHE_GROUPS = 2,
-    /* count above 64. Place in a file: where the number starts; in a list: 0. */
+    /* count above MIRTALUGHE_MOST_PIECES. Place in a file: where the number starts; in a list: 0. */
     MIRTALUGHE_COUNT = 3,
     /* kind outside 0 to 3. Place in a file: where the number starts; in a list: number of the piece. */
     MIRTALUGHE_KIND = 4,
