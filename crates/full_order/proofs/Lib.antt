@@ -1,2 +1,5 @@
 -- Which file to open for which fact. From another crate: `use Rattle.full_order.proofs.FILE.{..}`.
+--   the statements of specs/Demand, kept             Promises     finer-geometry
+--   the finer order: strict, total, what it says     Slants       finer-ranks, finer-precedes
 pub mod Slants
+pub mod Promises

@@ -12,8 +12,9 @@ use Rattle.line_segment.specs.Piece.{pointOf}
 use Rattle.line_segment.specs.Geometry.{run, rise, side}
 use Rattle.line_segment.specs.Segment.{intersectOf, containsOf, crossingOf}
 use Rattle.sweep.specs.Chart.{Chart}
-use Rattle.sweep.specs.Ported.{isLess, kindOf, isUpright}
+use Rattle.sweep.specs.Ported.{isLess, kindOf, isUpright, slopeOrder}
 use Rattle.sweep_geometry.specs.Full.{fullAbove, fullBelow, fullHeightOrder}
+use Rattle.full_steps.specs.InPlace.{Sides}
 
 -- where p lies of a piece between whose ends it is: Less below it, Equal on it, Greater above it
 unfoldable pub aside : Point → LineSegment → Order
@@ -51,3 +52,11 @@ finer n piece =
       crossing = λ i j. crossingOf (piece i) (piece j);
       before = λ p i j. isLess (finerOrder piece p i j);
     }
+
+-- by rising slope, an upright piece last, then by number: as pieces through p stand
+unfoldable pub throughOrder : (ℕ → LineSegment) → ℕ → ℕ → Order
+throughOrder piece i j = andThen (slopeOrder (piece i) (piece j)) (order (pos i) (pos j))
+
+-- how the pieces lie of a point, for the step done in place
+abbrev pub sidesOf : (n : ℕ) (piece : ℕ → LineSegment) → Sides (finer n piece)
+sidesOf n piece = record { aside = λ p i. aside p (piece i); rises = λ i j. isLess (throughOrder piece i j) }
