@@ -1,5 +1,5 @@
 -- Two pieces, a before b at l, that do not cross strictly between l and the next point p: on which sides of them p lies
--- (`below-stays`, `above-stays`), and that they stay in order unless both go through p (`persists`).
+-- (`below`, `above`), and that they stay in order unless both go through p (`ordered`).
 use mathlib.Core.Path.{_≡_, refl, sym, ap, _∙_, subst}
 use mathlib.Core.Logic.{⊎-elim}
 use mathlib.Core.List.{[], _∷_}
@@ -9,7 +9,7 @@ use lib.IntN.{ℤ, pos, negℤ, _+ℤ_, _-ℤ_, _*ℤ_}
 use lib.Signed.{_≤ℤ_, _<ℤ_, clashℤ}
 use Rattle.integers.proofs.Identity.{by-ring, terms}
 use Rattle.integers.proofs.Signs.{<-diff, <→≤, n*n, p*p, n+p}
-use Rattle.integers.proofs.Order.{<-cert, Tri, less, same, more, tri, ≡→≤, ≤-<-trans, <→≢, ≮→≥, ≤-≢→<}
+use Rattle.integers.proofs.Order.{<-cert, Tri, less, same, more, tri, ≡→≤, ≤-<-trans, <→≢, ≮→≥, ≤-≢→<, neg-<}
 use Rattle.integers.proofs.Factors.{p/p, m/p, n/p, zero-product}
 use Rattle.integers.proofs.Lines.{at, stays-above}
 use Rattle.integers.proofs.Ratios.{ratio-<-≤-trans}
@@ -39,6 +39,11 @@ use Rattle.sweep_geometry.proofs.Uprights.{west-sloped, standing-x, higher, upr
 use Rattle.sweep_geometry.proofs.Turning.{CrossIn, cross-in, meet-x, meet-above, meet-below, turning, upright-cross}
 use Rattle.full_order.specs.Finer.{slantOrder}
 use Rattle.full_order.proofs.Slants.{Finer, finer-precedes, also-on, rising, falling, level-slant}
+
+pub record Stays (p : Point) (a b : LineSegment) (r : Order) : Type 0 where
+  pub below : side a p <ℤ pos 0 → side b p <ℤ pos 0
+  pub above : pos 0 <ℤ side b p → pos 0 <ℤ side a p
+  pub ordered : ¬ ((side a p ≡ pos 0) × (side b p ≡ pos 0)) → Finer p a b r
 
 -- a point between the ends of an upright piece is on it
 pub upright-through : (s : LineSegment) (p : Point) → 0 < p .d → ¬ (pointOrder (pointOf (s .min)) p ≡ Greater) → ¬ (pointOrder p (pointOf (s .max)) ≡ Greater)
@@ -108,7 +113,7 @@ module _ (a b : LineSegment) (la : HasLength a) (lb : HasLength b) (l p : Point)
   passed : pos 0 <ℤ run a → run b ≡ pos 0 → pos 0 <ℤ rise b → pos 0 <ℤ side a p
   passed ha eb rb = onwards (no-west b bf bu eb rb) (λ x y. climbed x y ha (before .over ha eb))
 
-  pub below-stays : side a p <ℤ pos 0 → side b p <ℤ pos 0
+  below-stays : side a p <ℤ pos 0 → side b p <ℤ pos 0
   below-stays k = go (leads a la) (leads b lb)
     where
       down : (x y u v : ℤ) → pos 0 <ℤ u → pos 0 <ℤ v → pos 0 ≤ℤ (v *ℤ x -ℤ u *ℤ y) → x <ℤ pos 0 → y <ℤ pos 0
@@ -119,7 +124,7 @@ module _ (a b : LineSegment) (la : HasLength a) (lb : HasLength b) (l p : Point)
       go (rightward ha) (upward eb rb) = clashℤ k (<→≤ (passed ha eb rb))
       go (upward ea ra) lb = absurd (<→≢ k (through a af au ea ra))
 
-  pub above-stays : pos 0 <ℤ side b p → pos 0 <ℤ side a p
+  above-stays : pos 0 <ℤ side b p → pos 0 <ℤ side a p
   above-stays k = go (leads a la) (leads b lb)
     where
       up : (x y u v : ℤ) → pos 0 <ℤ u → pos 0 <ℤ v → pos 0 ≤ℤ (v *ℤ x -ℤ u *ℤ y) → pos 0 <ℤ y → pos 0 <ℤ x
@@ -184,7 +189,7 @@ module _ (a b : LineSegment) (la : HasLength a) (lb : HasLength b) (l p : Point)
         met : One → pos 0 ≤ℤ side a l
         met x = ≮→≥ (λ k. not-first (slantOrder l a b) r (then-slant (gap-then x)) (falling a b l dl ha hb (gap-then x) k ∙ order-greater t))
 
-  pub persists : ¬ ((side a p ≡ pos 0) × (side b p ≡ pos 0)) → Finer p a b r
+  persists : ¬ ((side a p ≡ pos 0) × (side b p ≡ pos 0)) → Finer p a b r
   persists n = go (leads a la) (leads b lb)
     where
       sloped : pos 0 <ℤ run a → pos 0 <ℤ run b → Tri (pos 0) (gap a b p) → Tri (tilt a b) (pos 0) → Finer p a b r
@@ -194,12 +199,12 @@ module _ (a b : LineSegment) (la : HasLength a) (lb : HasLength b) (l p : Point)
       sloped ha hb (same g) (more t) = opening ha hb (sym g) t
       sloped ha hb (more g) t = clashℤ g (still-over ha hb)
 
-      negated : (z : ℤ) → z <ℤ pos 0 → pos 0 <ℤ negℤ z
-      negated z k = <-cert (z ∷ []) (<-diff k) (search terms depth 60 fits 20000) tt
-
       go : Leads a → Leads b → Finer p a b r
       go (rightward ha) (rightward hb) = sloped ha hb (tri (pos 0) (gap a b p)) (tri (tilt a b) (pos 0))
       go (rightward ha) (upward eb rb) = by-height (over-height a b p dp ha eb ∙ order-less (passed ha eb rb))
       go (upward ea ra) (rightward hb) =
-          by-height (under-height a b p dp ea hb ∙ order-less (negated (side b p) (≤-≢→< (still-under ea ra hb) (λ z. n (through a af au ea ra, z)))))
+          by-height (under-height a b p dp ea hb ∙ order-less (neg-< (≤-≢→< (still-under ea ra hb) (λ z. n (through a af au ea ra, z)))))
       go (upward ea ra) (upward eb rb) = absurd (n (through a af au ea ra, through b bf bu eb rb))
+
+  pub stays : Stays p a b r
+  stays = record { below = below-stays; above = above-stays; ordered = persists }

@@ -7,7 +7,7 @@ use lib.IntN.{ℤ, pos, negℤ, _-ℤ_, _*ℤ_}
 use lib.Signed.{_<ℤ_}
 use Rattle.integers.proofs.Identity.{terms}
 use Rattle.integers.proofs.Signs.{<-diff, p*p}
-use Rattle.integers.proofs.Order.{<-cert, ≡→≤, <→≢}
+use Rattle.integers.proofs.Order.{<-cert, ≡→≤, <→≢, neg-<}
 use Rattle.fractions.specs.Order.{order, andThen}
 use Rattle.fractions.specs.Point.{pointOrder}
 use Rattle.fractions.specs.declared.Order.{Order}
@@ -62,10 +62,7 @@ module _ (a b : LineSegment) (p : Point) (d : 0 < p .d) where
       over : (u z : ℤ) → pos 0 <ℤ u → z <ℤ pos 0 → pos 0 <ℤ (pos 0 -ℤ u *ℤ z)
       over u z hu hz = <-cert (u ∷ z ∷ []) (p*p hu (<-diff hz)) (search terms depth 60 fits 20000) tt
 
-      negated : (z : ℤ) → z <ℤ pos 0 → pos 0 <ℤ negℤ z
-      negated z k = <-cert (z ∷ []) (<-diff k) (search terms depth 60 fits 20000) tt
-
       go : Leads a → Leads b → fullHeightOrder p a b ≡ Less
       go (rightward ha) (rightward hb) = height-by-gap a b p d ha hb ∙ order-less (subst (λ (z : ℤ). pos 0 <ℤ z) (sym (gap-first a b p e)) (over (run a) (side b p) ha k))
-      go (upward ea ra) (rightward hb) = under-height a b p d ea hb ∙ order-less (negated (side b p) k)
+      go (upward ea ra) (rightward hb) = under-height a b p d ea hb ∙ order-less (neg-< k)
       go la (upward eb rb) = absurd (<→≢ k (upright-through b p d from upto eb rb))

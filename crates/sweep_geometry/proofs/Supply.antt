@@ -34,7 +34,7 @@ use Rattle.sweep.proofs.Occurring.{Crossing as CrossingAt}
 use Rattle.sweep_geometry.specs.Demand.{AllProper}
 use Rattle.sweep_geometry.proofs.Comparisons.{never}
 use Rattle.sweep_geometry.proofs.Ranking.{less-is}
-use Rattle.sweep_geometry.proofs.Points.{at-most, not-less}
+use Rattle.sweep_geometry.proofs.Points.{at-most, not-less, up-to}
 use Rattle.sweep_geometry.proofs.Turning.{crossing-of, CrossIn}
 use Rattle.sweep_geometry.proofs.Preceding.{Precedes}
 use Rattle.sweep_geometry.proofs.Squeeze.{squeeze}
@@ -116,7 +116,7 @@ module _ (n : ℕ) (piece : ℕ → LineSegment) (ok : AllProper n piece) (befor
         before = before;
       }
 
-  len : (i : ℕ) → i < n → HasLength (piece i)
+  pub len : (i : ℕ) → i < n → HasLength (piece i)
   len i h = ok i h .length
 
   -- ---- the points that occur are in lowest terms and within the bounds
@@ -146,7 +146,7 @@ module _ (n : ℕ) (piece : ℕ → LineSegment) (ok : AllProper n piece) (befor
           let m = (crossing-is-cramers (piece (q .0)) (piece (q .1)) (len (q .0) (omega arith)) (len (q .1) (v .1)) (kind-crosses _ k)) .1 in
           rw e (m .lowest, crossing-stays-bounded (piece (q .0)) (piece (q .1)) (ok (q .0) (omega arith) .charted) (ok (q .1) (v .1) .charted))
 
-  positive : (p : Point) → Occurs C p → 0 < p .d
+  pub positive : (p : Point) → Occurs C p → 0 < p .d
   positive p o = (reduced p o) .0 .positive
 
   less-same : (p q : Point) → Occurs C p → Occurs C q → isLess (pointOrder p q) ≡ false → isLess (pointOrder q p) ≡ false → p ≡ q
@@ -167,7 +167,7 @@ module _ (n : ℕ) (piece : ℕ → LineSegment) (ok : AllProper n piece) (befor
 
   -- ---- the test
   module _ (i j : ℕ) (hi : i < n) (hj : j < n) where
-    crossing-point : kindOf (intersectOf (piece i) (piece j)) ≡ crosses → OnlyPoint (piece i) (piece j) (crossingOf (piece i) (piece j))
+    pub crossing-point : kindOf (intersectOf (piece i) (piece j)) ≡ crosses → OnlyPoint (piece i) (piece j) (crossingOf (piece i) (piece j))
     crossing-point k = (crossing-is-cramers (piece i) (piece j) (len i hi) (len j hj) (kind-crosses _ k)) .1
 
     shared : (p : Point) → Occurs C p → containsOf (piece i) p ≡ true → containsOf (piece j) p ≡ true → Common (piece i) (piece j) p
@@ -179,33 +179,30 @@ module _ (n : ℕ) (piece : ℕ → LineSegment) (ok : AllProper n piece) (befor
           second = (contains-exactly (piece j) p (len j hj) (r .0 .positive) (r .1)) .0 f;
         }
 
-    contains-crosses : (p : Point) → Occurs C p → containsOf (piece i) p ≡ true → containsOf (piece j) p ≡ true → ¬ OneLine (piece i) (piece j) → kindOf (intersectOf (piece i) (piece j)) ≡ crosses
+    pub contains-crosses : (p : Point) → Occurs C p → containsOf (piece i) p ≡ true → containsOf (piece j) p ≡ true → ¬ OneLine (piece i) (piece j) → kindOf (intersectOf (piece i) (piece j)) ≡ crosses
     contains-crosses p o e f na =
         ap kindOf
         (crossing-of (intersectOf (piece i) (piece j)) ((says-yes-exactly (piece i) (piece j) (len i hi) (len j hj)) .1 (p, shared p o e f))
         (λ y. na (((overlap-exactly (piece i) (piece j) (len i hi) (len j hj)) .0 y) .0)))
 
-  on-range : (i : ℕ) (p : Point) → On (piece i) p → (isLess (pointOrder p (pointOf (piece i .min))) ≡ false) × (isLess (pointOrder (pointOf (piece i .max)) p) ≡ false)
+  pub on-range : (i : ℕ) (p : Point) → On (piece i) p → (isLess (pointOrder p (pointOf (piece i .min))) ≡ false) × (isLess (pointOrder (pointOf (piece i .max)) p) ≡ false)
   on-range i p o = (not-less (pointOf (piece i .min)) p (closed-from (piece i) p o), not-less p (pointOf (piece i .max)) (closed-upto (piece i) p o))
 
-  contains-on : (i : ℕ) (p : Point) → i < n → Occurs C p → containsOf (piece i) p ≡ true → On (piece i) p
+  pub contains-on : (i : ℕ) (p : Point) → i < n → Occurs C p → containsOf (piece i) p ≡ true → On (piece i) p
   contains-on i p h o e = let r = reduced p o in lies-closed (piece i) p ((contains-exactly (piece i) p (len i h) (r .0 .positive) (r .1)) .0 e)
 
-  on-contains : (i : ℕ) (p : Point) → i < n → Occurs C p → On (piece i) p → isLess (pointOrder (pointOf (piece i .min)) p) ≡ true → isLess (pointOrder p (pointOf (piece i .max))) ≡ true → containsOf (piece i) p ≡ true
+  pub on-contains : (i : ℕ) (p : Point) → i < n → Occurs C p → On (piece i) p → isLess (pointOrder (pointOf (piece i .min)) p) ≡ true → isLess (pointOrder p (pointOf (piece i .max))) ≡ true → containsOf (piece i) p ≡ true
   on-contains i p h o on e f =
       let r = reduced p o in
       (contains-exactly (piece i) p (len i h) (r .0 .positive) (r .1)) .1 (lies-inside (piece i) p (closed-line (piece i) p on) (less-is _ e) (less-is _ f))
 
   -- ---- the squeeze
-  between : (p c : Point) (i j : ℕ) → CrossIn (piece i) (piece j) p c → CrossBetween C p c i j
+  pub between : (p c : Point) (i j : ℕ) → CrossIn (piece i) (piece j) p c → CrossBetween C p c i j
   between p c i j x = (ap kindOf (x .cross), ap isLess (x .after), ap isLess (x .until))
-
-  reaching : {o : Order} → isLess o ≡ true → ¬ (o ≡ Greater)
-  reaching e g = never (less-is _ e) g (omega arith)
 
   -- ---- for an order that is strict and total and says where pieces lie
   module _ (R : Ranks n piece before) where
-    squeezed : (p c : Point) → Occurs C p → Occurs C c → isLess (pointOrder p c) ≡ true → (i k j : ℕ) → Under C p i → Under C p k → Under C p j
+    pub squeezed : (p c : Point) → Occurs C p → Occurs C c → isLess (pointOrder p c) ≡ true → (i k j : ℕ) → Under C p i → Under C p k → Under C p j
         → isLess (pointOrder c (pointOf (piece i .max))) ≡ true → isLess (pointOrder c (pointOf (piece k .max))) ≡ true → isLess (pointOrder c (pointOf (piece j .max))) ≡ true
         → before p i k ≡ true → before p k j ≡ true → On (piece i) c → On (piece j) c → On (piece k) c ⊎ (CrossBetween C p c i k ⊎ CrossBetween C p c k j)
     squeezed p c op oc pc i k j ui uk uj ci ck cj e f oi oj =
@@ -217,10 +214,11 @@ module _ (n : ℕ) (piece : ℕ → LineSegment) (ok : AllProper n piece) (befor
         (λ g. never (less-is _ ck) g (omega arith))))
         (λ (z : CrossIn (piece i) (piece k) p c ⊎ CrossIn (piece k) (piece j) p c). inr (⊎-elim (λ x. inl (between p c i k x)) (λ x. inr (between p c k j x)) z))
         (squeeze (piece i) (piece k) (piece j) (len i (ui .0)) (len k (uk .0)) (len j (uj .0)) p c (positive p op) (positive c oc)
-        (at-most (pointOf (piece i .min)) p (ui .1)) from (at-most (pointOf (piece j .min)) p (uj .1)) (reaching ci) (reaching ck) (reaching cj)
+        (at-most (pointOf (piece i .min)) p (ui .1)) from (at-most (pointOf (piece j .min)) p (uj .1)) (up-to c (pointOf (piece i .max)) ci) (up-to c (pointOf (piece k .max)) ck) (up-to c (pointOf (piece j .max)) cj)
         (R .precedes p (positive p op) i k (ui .0) (uk .0) e) (R .precedes p (positive p op) k j (uk .0) (uj .0) f) (closed-line (piece i) c oi) (closed-line (piece j) c oj) (less-is _ pc))
 
-    pub geometry : Geometry C
+    unfoldable pub geometry : Geometry C
+    unfolding later
     geometry =
         record {
           On = λ i p. On (piece i) p;
@@ -238,7 +236,7 @@ module _ (n : ℕ) (piece : ℕ → LineSegment) (ok : AllProper n piece) (befor
           crossing-only = λ i j p hi hj ne o k oi oj. (crossing-point i j hi hj k) .only p ((reduced p o) .0) (closed-line (piece i) p oi) (closed-line (piece j) p oj);
           crossing-not-aligned = λ i j hi hj ne k. (crossing-is-cramers (piece i) (piece j) (len i hi) (len j hj) (kind-crosses _ k)) .0;
           contains-crosses = λ i j p hi hj ne o e f na. contains-crosses i j hi hj p o e f na;
-          overlap-on = λ i j hi hj ne k. unfold later in overlap-on (piece i) (piece j) (len i hi) (len j hj) k;
+          overlap-on = λ i j hi hj ne k. overlap-on (piece i) (piece j) (len i hi) (len j hj) k;
           aligned-dec = λ i j. aligned-dec (piece i) (piece j);
           aligned-trans = λ i j k p hi hj hk o oi oj ok′ l m. aligned-trans (piece i) (piece j) (piece k) (len j hj) l m;
           before-irr = R .irr;
