@@ -8,7 +8,7 @@ use Rattle.sweep.proofs.Walks.{Walk, walk-steps, walk-last, walk-ends}
 use Rattle.sweep.proofs.Theorem.{Keeps, walk-visits, walk-lists, walk-inv}
 use Rattle.sweep.proofs.Promises.{run-promises}
 use Rattle.full_steps.specs.Steps.{State, start, next, step, move-to, move, run, visited, answer-of, answer}
-use Rattle.full_steps.specs.Demand.{full-run, Promised}
+use Rattle.full_steps.specs.Demand.{full-run, Promised, SaysComplete}
 use Rattle.full_steps.proofs.Step.{Inv, inv-start, next-none, next-soonest, step-inv, step-listed}
 
 module _ (C : Chart) where
@@ -61,3 +61,7 @@ module _ (C : Chart) where
 
 pub promises : Promised
 promises C G = let F = ranked C G in run-promises C F (full-run C) (tells C) (sweeps C F)
+
+pub says-complete : SaysComplete
+unfolding answer answer-of
+says-complete C m = refl
