@@ -5,14 +5,16 @@ use mathlib.Core.Logic.{_↔_}
 use mathlib.Core.Bool.{Bool, true, false, cond, _&&_, _||_, not}
 use mathlib.Core.List.{List, [], _∷_, _++_, map}
 use mathlib.Core.Option.{Option, none, some}
-use Prim.Native.Nat.{ℕ, _<_}
+use Prim.Native.Nat.{ℕ, zero, suc, _+_, _-_, _<_}
 use lib.Dec.{eqb}
+use lib.ListN.{length, take, drop}
 use Rattle.fractions.specs.declared.Order.{Order}
 use Rattle.fractions.specs.declared.Order.the-variants.{Less, Equal, Greater}
 use Rattle.sweep.specs.Lists.{Pair, upto, keep, any, sort, pairs, lesser-first, last-of, adjacent}
 use Rattle.sweep.specs.Chart.{Kind, nothing, crosses, overlaps, Chart, kind, at}
-use Rattle.sweep.specs.Queue.{beyond}
+use Rattle.sweep.specs.Queue.{ends, beyond, least}
 use Rattle.sweep.specs.Step.{starts, finishes}
+use Rattle.sweep.specs.Run.{Answer, is-none}
 use Rattle.sweep.specs.Sought.{is-crossing}
 use Rattle.sweep.specs.Geometry.{Occurs, Under, CrossBetween, Geometry}
 use Rattle.sweep.specs.Ported.{isLess, isEqual}
@@ -21,6 +23,12 @@ abbrev pub isGreater : Order → Bool
 isGreater Less = false
 isGreater Equal = false
 isGreater Greater = true
+
+-- the lanes that are taken
+unfoldable pub somes : {A : Type 0} → List (Option A) → List A
+somes [] = []
+somes (none ∷ l) = somes l
+somes (some a ∷ l) = a ∷ somes l
 
 -- how a chart's pieces lie of a point: Less where p is below piece i, Equal where it is on it, Greater where it is above;
 -- and whether i comes before j by rising slope (an upright piece last), then number
@@ -82,15 +90,56 @@ module _ (C : Chart) (S : Sides C) where
   unfoldable pub joint : List ℕ → List ℕ → List Pair
   joint k l = joint-of (last-of k) l
 
-  -- the lanes after a step at p: those outside the block as they were, none inside it, and the outer pairs anew; where the
-  -- block is empty these are the one pair that closes up
-  unfoldable pub relaned : Option Point → List ℕ → Point → List (Option Point)
-  relaned last active p =
-      map (lane last) (adjacent (below active p))
+  -- the lanes after a step at p: those outside the block stay, there is none inside it, and the outer pairs are worked out
+  -- anew; where the block is empty that is the one pair that closes up
+  unfoldable pub relaned : List (Option Point) → List ℕ → Point → List (Option Point)
+  relaned old active p =
+      take (length (below active p) - 1) old
       ++ (map (lane (some p)) (joint (below active p) (renewed active p ++ above active p))
       ++ (map (λ q. none) (adjacent (renewed active p))
       ++ (map (lane (some p)) (joint (renewed active p) (above active p))
-      ++ map (lane last) (adjacent (above active p)))))
+      ++ drop (length (below active p) + length (block active p)) old)))
+
+  -- what is held between two steps, the lanes with it
+  pub record Held : Type 0 where
+    pub active : List ℕ
+    pub lanes : List (Option Point)
+    pub listed : List Pair
+    pub last : Option Point
+    pub steps : ℕ
+
+  unfoldable pub empty : Held
+  empty = record { active = []; lanes = []; listed = []; last = none; steps = 0 }
+
+  -- the next point is the least of the ends beyond the last point and the lanes
+  unfoldable pub held-next : Held → Option Point
+  held-next h = least C (keep (beyond C (h .last)) (ends C (upto n)) ++ somes (h .lanes))
+
+  unfoldable pub held-step : Held → Point → Held
+  held-step h p = record {
+    active = replaced (h .active) p;
+    lanes = relaned (h .lanes) (h .active) p;
+    listed = h .listed ++ fresh-pairs (h .active) p;
+    last = some p;
+    steps = suc (h .steps);
+  }
+
+  unfoldable pub held-to : Held → Option Point → Held
+  held-to h none = h
+  held-to h (some p) = held-step h p
+
+  unfoldable pub held-run : ℕ → Held
+  held-run zero = empty
+  held-run (suc m) = held-to (held-run m) (held-next (held-run m))
+
+  unfoldable pub held-answer : ℕ → Answer C
+  held-answer m = record {
+    listed = (held-run m) .listed;
+    steps = (held-run m) .steps;
+    ended = is-none C (held-next (held-run m));
+    complete = true;
+    last = (held-run m) .last;
+  }
 
   -- What this needs of geometry, beyond Geometry. l is the last point, p the next.
   pub record InPlaceFacts (G : Geometry C) : Type 0 where

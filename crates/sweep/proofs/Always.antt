@@ -30,7 +30,7 @@ use Rattle.sweep.proofs.Rank.{keep-more}
 use Rattle.sweep.proofs.Ranked.{Keyed, keys, less-true, less-yes, same-true, same-false}
 use Rattle.sweep.proofs.Least.{least-some}
 use Rattle.sweep.proofs.Between.{bound, bound-none, bound-some}
-use Rattle.sweep.proofs.Runs.{runs-on, lists-on, steps-visited, last-visited}
+use Rattle.sweep.proofs.Runs.{runs-on, lists-on, steps-visited, tells}
 use Rattle.sweep.proofs.Fair.{Fair, Begun, each-fair, report-fair, reports-wait, examine-fair}
 
 module _ (C : Chart) (O : PointsOrdered C) where
@@ -159,7 +159,7 @@ module _ (C : Chart) (O : PointsOrdered C) where
           }
         where
           waiting-old : (q : Pair) → In q ((each (report C) (pairs (keep (takes-part C s p) (upto n))) (s .marks)) .waiting) → In q (s .marks .waiting)
-          waiting-old q m = rw (reports-wait C O (pairs (keep (takes-part C s p) (upto n))) (s .marks)) at m
+          waiting-old q m = rw (reports-wait C (pairs (keep (takes-part C s p) (upto n))) (s .marks)) at m
 
       step-sound : Sound (step C s p)
       unfolding step bound examined
@@ -256,7 +256,7 @@ module _ (C : Chart) (O : PointsOrdered C) where
         lists-only = λ m. (forward m) .sound .fair .only;
         lists-once = λ m. (forward m) .sound .fair .once;
         lists-on = lists-on C;
-        last-visited = last-visited C;
+        last-visited = (tells C) .last-visited;
         steps-bounded = λ m. omega (arith, steps-visited C m, few-visited m);
         ends-soon = λ m h. ended m h (next C (run C m)) refl;
         runs-on = runs-on C;

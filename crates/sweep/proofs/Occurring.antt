@@ -23,7 +23,7 @@ is-crossing-true nothing e = clash e refl
 is-crossing-true crosses e = refl
 is-crossing-true overlaps e = clash e refl
 
-is-crossing-yes : (k : Kind) → k ≡ crosses → is-crossing k ≡ true
+pub is-crossing-yes : (k : Kind) → k ≡ crosses → is-crossing k ≡ true
 unfolding is-crossing
 is-crossing-yes k e = rw e
 
