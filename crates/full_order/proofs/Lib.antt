@@ -1,7 +1,12 @@
 -- Which file to open for which fact. From another crate: `use Rattle.full_order.proofs.FILE.{..}`.
---   the statements of specs/Demand, kept             Promises     finer-geometry
---   the finer order: strict, total, what it says     Slants       finer-ranks, finer-precedes
+--   the facts of geometry, and those of the step in place    Promises     finer-supplies, finer-geometry, in-place-facts
+--   the new mode's promises, of every accepted list          Modes        list-full-sweeps, full-lists-meetings
+--   .. and that without upright pieces the modes are one     Modes        same-without-uprights
+--   pieces that do not cross up to p stay in order           Persisting   stays
+--   pieces below p, through it and above it                  Through      below-first, both-through, above-last
+--   the finer order: strict, total, what it says             Slants       finer-ranks, finer-precedes
 pub mod Slants
 pub mod Persisting
 pub mod Through
 pub mod Promises
+pub mod Modes

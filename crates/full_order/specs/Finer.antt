@@ -4,15 +4,13 @@ use mathlib.Core.Bool.{Bool, cond}
 use Prim.Native.Nat.{ℕ}
 use lib.IntN.{ℤ, pos, negℤ, _*ℤ_}
 use Rattle.fractions.specs.Order.{order, andThen}
-use Rattle.fractions.specs.Point.{pointOrder}
 use Rattle.fractions.specs.declared.Order.{Order}
 use Rattle.fractions.specs.declared.Point.{Point}
 use Rattle.line_segment.specs.declared.LineSegment.{LineSegment}
-use Rattle.line_segment.specs.Piece.{pointOf}
 use Rattle.line_segment.specs.Geometry.{run, rise, side}
-use Rattle.line_segment.specs.Segment.{intersectOf, containsOf, crossingOf}
 use Rattle.sweep.specs.Chart.{Chart}
-use Rattle.sweep.specs.Ported.{isLess, kindOf, isUpright, slopeOrder}
+use Rattle.sweep.specs.Ported.{isLess, slopeOrder, ported}
+use Rattle.sweep.specs.Demand.{reordered}
 use Rattle.sweep_geometry.specs.Full.{fullAbove, fullBelow, fullHeightOrder}
 use Rattle.full_steps.specs.InPlace.{Sides}
 
@@ -37,21 +35,9 @@ finerOrder piece p i j =
     andThen (fullHeightOrder p (piece i) (piece j))
     (andThen (slantOrder p (piece i) (piece j)) (order (pos i) (pos j)))
 
--- n numbered pieces, with this order
+-- the chart of n numbered pieces, with this order
 abbrev pub finer : ℕ → (ℕ → LineSegment) → Chart
-finer n piece =
-    record {
-      Point = Point;
-      less = λ p q. isLess (pointOrder p q);
-      n = n;
-      min = λ i. pointOf (piece i .min);
-      max = λ i. pointOf (piece i .max);
-      upright = λ i. isUpright (piece i);
-      contains = λ i p. containsOf (piece i) p;
-      test = λ i j. kindOf (intersectOf (piece i) (piece j));
-      crossing = λ i j. crossingOf (piece i) (piece j);
-      before = λ p i j. isLess (finerOrder piece p i j);
-    }
+finer n piece = reordered (ported n piece) (λ p i j. isLess (finerOrder piece p i j))
 
 -- by rising slope, an upright piece last, then by number: as pieces through p stand
 unfoldable pub throughOrder : (ℕ → LineSegment) → ℕ → ℕ → Order
