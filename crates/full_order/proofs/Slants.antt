@@ -21,14 +21,14 @@ use Rattle.line_segment.specs.declared.LineSegment.{LineSegment}
 use Rattle.line_segment.specs.Geometry.{run, rise, side}
 use Rattle.line_segment.proofs.Along.{Leads, leads}
 use Rattle.line_segment.proofs.Sides.{tilt}
-use Rattle.sweep.specs.Ported.{isLess}
-use Rattle.sweep_geometry.specs.Full.{fullHeightOrder}
+use Rattle.sweep.specs.Ported.{isLess, heightAbove, heightBelow}
+use Rattle.sweep_geometry.specs.Full.{fullAbove, fullBelow, fullHeightOrder}
 use Rattle.sweep_geometry.specs.Demand.{AllProper}
 use Rattle.sweep_geometry.proofs.Comparisons.{Orders, order-scaled}
 use Rattle.sweep_geometry.proofs.Gap.{gap, gap-sides, slope-tilt, below-side}
-use Rattle.sweep_geometry.proofs.Slopes.{lean-down, lean-orders}
+use Rattle.sweep_geometry.proofs.Slopes.{standing-is, lean-down, lean-orders}
 use Rattle.sweep_geometry.proofs.Ranking.{less-is, rank-irr, rank-trans, rank-total}
-use Rattle.sweep_geometry.proofs.Heights.{above-sloped, below-sloped, above-standing, below-standing, full-heights, full-even, order-diff, zero-times}
+use Rattle.sweep_geometry.proofs.Heights.{above-sloped, below-sloped, full-heights, full-even, order-diff, zero-times}
 use Rattle.sweep_geometry.proofs.Preceding.{Precedes, precedes}
 use Rattle.sweep_geometry.proofs.Supply.{Ranks}
 use Rattle.full_order.specs.Finer.{aside, overhead, slant, slantOrder, finerOrder}
@@ -71,8 +71,8 @@ module _ (p : Point) (s : LineSegment) where
 -- ---- overhead: an upright piece never, a sloped one where p lies below it
 module _ (p : Point) (s : LineSegment) where
   overhead-standing : run s ≡ pos 0 → overhead p s ≡ false
-  unfolding overhead
-  overhead-standing e = rw (above-standing s p e, below-standing s p e) (ap isLess (order-equal {a = p .y *ℤ pos (p .d)} refl))
+  unfolding overhead fullAbove fullBelow heightAbove heightBelow
+  overhead-standing e = rw (standing-is s e) (ap isLess (order-equal {a = p .y *ℤ pos (p .d)} refl))
 
   overhead-sloped : 0 < p .d → pos 0 <ℤ run s → overhead p s ≡ isLess (aside p s)
   unfolding overhead aside

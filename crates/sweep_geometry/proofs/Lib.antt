@@ -26,5 +26,5 @@ pub mod Aligned
 pub mod Supply
 pub mod Promises
 pub mod FirstCommon
-mod Examples
+pub mod Examples
 pub mod Accepted
