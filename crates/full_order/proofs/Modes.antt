@@ -1,6 +1,6 @@
 -- The new mode on every accepted list of numbers: it keeps every promise, and without upright pieces it answers as the
 -- ported mode does.
-use mathlib.Core.Path.{_≡_, refl, sym, ap, _∙_}
+use mathlib.Core.Path.{_≡_, sym, ap, _∙_}
 use mathlib.Core.Logic.{⊎-elim}
 use mathlib.Core.Bool.{Bool, true, false, not}
 use Prim.Native.Nat.{ℕ}

@@ -5,7 +5,7 @@ use mathlib.Core.Logic.{⊎-elim}
 use mathlib.Core.List.{[], _∷_}
 use Prim.Native.Nat.{_<_}
 use native.Mathlib.Omega.{arith}
-use lib.IntN.{ℤ, pos, negℤ, _+ℤ_, _-ℤ_, _*ℤ_}
+use lib.IntN.{ℤ, pos, _+ℤ_, _-ℤ_, _*ℤ_}
 use lib.Signed.{_≤ℤ_, _<ℤ_, clashℤ}
 use Rattle.integers.proofs.Identity.{by-ring, terms}
 use Rattle.integers.proofs.Signs.{<-diff, <→≤, n*n, p*p, n+p}
@@ -14,10 +14,10 @@ use Rattle.integers.proofs.Factors.{p/p, m/p, n/p, zero-product}
 use Rattle.integers.proofs.Lines.{at, stays-above}
 use Rattle.integers.proofs.Ratios.{ratio-<-≤-trans}
 use Rattle.integers.proofs.Naturals.{pos-<}
-use Rattle.fractions.specs.Order.{order, andThen}
+use Rattle.fractions.specs.Order.{andThen}
 use Rattle.fractions.specs.Point.{pointOrder}
 use Rattle.fractions.specs.declared.Order.{Order}
-use Rattle.fractions.specs.declared.Order.the-variants.{Less, Equal, Greater}
+use Rattle.fractions.specs.declared.Order.the-variants.{Less, Greater}
 use Rattle.fractions.specs.declared.Point.{Point}
 use Rattle.fractions.proofs.Orders.{order-less, order-equal, order-greater}
 use Rattle.fractions.proofs.Points.{Places, left, below, above, right, places, placed, at-most-less}

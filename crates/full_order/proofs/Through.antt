@@ -1,14 +1,14 @@
 -- Pieces at a point p that lies between their ends: those below p come first, then those through it by slope and number,
 -- then those above.
-use mathlib.Core.Path.{_≡_, refl, sym, ap, ap₂, _∙_, subst}
+use mathlib.Core.Path.{_≡_, refl, sym, ap, _∙_, subst}
 use mathlib.Core.List.{[], _∷_}
-use Prim.Native.Nat.{ℕ, _<_}
+use Prim.Native.Nat.{_<_}
 use lib.IntN.{ℤ, pos, negℤ, _-ℤ_, _*ℤ_}
 use lib.Signed.{_<ℤ_}
 use Rattle.integers.proofs.Identity.{terms}
 use Rattle.integers.proofs.Signs.{<-diff, p*p}
 use Rattle.integers.proofs.Order.{<-cert, ≡→≤, <→≢, neg-<}
-use Rattle.fractions.specs.Order.{order, andThen}
+use Rattle.fractions.specs.Order.{andThen}
 use Rattle.fractions.specs.Point.{pointOrder}
 use Rattle.fractions.specs.declared.Order.{Order}
 use Rattle.fractions.specs.declared.Order.the-variants.{Less, Equal, Greater}
@@ -20,7 +20,7 @@ use Rattle.line_segment.specs.Geometry.{run, rise, side}
 use Rattle.line_segment.proofs.Along.{Leads, rightward, upward, leads}
 use Rattle.sweep.specs.Ported.{slopeOrder}
 use Rattle.sweep_geometry.specs.Full.{fullHeightOrder}
-use Rattle.sweep_geometry.proofs.Gap.{gap, gap-zero, gap-first, gap-second}
+use Rattle.sweep_geometry.proofs.Gap.{gap-zero, gap-first, gap-second}
 use Rattle.sweep_geometry.proofs.Heights.{above-standing, below-standing, height-by-gap}
 use Rattle.sweep_geometry.proofs.Preceding.{under-height, over-height}
 use Rattle.full_order.specs.Finer.{slant, slantOrder}

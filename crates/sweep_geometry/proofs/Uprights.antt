@@ -4,7 +4,6 @@ use mathlib.Core.Path.{_≡_, refl, sym, ap, _∙_, subst}
 use mathlib.Core.Logic.{⊎-elim}
 use mathlib.Core.List.{[], _∷_}
 use Prim.Native.Nat.{_<_}
-use native.Mathlib.Omega.{arith}
 use lib.IntN.{ℤ, pos, _+ℤ_, _-ℤ_, _*ℤ_}
 use lib.Signed.{_≤ℤ_, _<ℤ_, clashℤ}
 use Rattle.integers.proofs.Identity.{by-ring, terms}
@@ -14,14 +13,13 @@ use Rattle.integers.proofs.Factors.{*-cancel-≤, p/p, zero-product}
 use Rattle.integers.proofs.Naturals.{pos-<}
 use Rattle.fractions.specs.Point.{pointOrder}
 use Rattle.fractions.specs.declared.Order.{Order}
-use Rattle.fractions.specs.declared.Order.the-variants.{Less, Greater}
+use Rattle.fractions.specs.declared.Order.the-variants.{Greater}
 use Rattle.fractions.specs.declared.Point.{Point}
 use Rattle.fractions.proofs.Points.{Places, left, below, same, above, right, places}
 use Rattle.line_segment.specs.declared.LineSegment.{LineSegment}
 use Rattle.line_segment.specs.Piece.{pointOf}
 use Rattle.line_segment.specs.Geometry.{run, rise, side}
 use Rattle.line_segment.proofs.Along.{Leads, rightward, upward}
-use Rattle.sweep_geometry.proofs.Comparisons.{never}
 
 x-at-most : (p q : Point) → ¬ (pointOrder p q ≡ Greater) → (p .x *ℤ pos (q .d)) ≤ℤ (q .x *ℤ pos (p .d))
 x-at-most p q f = go (places p q) f
