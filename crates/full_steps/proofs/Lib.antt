@@ -5,3 +5,5 @@
 pub mod Step
 pub mod Promises
 pub mod Sides
+pub mod Replaced
+pub mod Fresh
