@@ -2,29 +2,28 @@
 -- and an overlap where one of them starts.
 use mathlib.Core.Path.{_≡_, refl, sym, ap, _∙_}
 use mathlib.Core.Logic.{_⊎_, inl, inr, ⊎-elim, _≢_, by-cases}
-use mathlib.Core.Bool.{Bool, true, false, _&&_, _||_}
+use mathlib.Core.Bool.{Bool, true, _||_}
 use mathlib.Core.Option.{some}
 use mathlib.Core.List.{List, _++_}
-use mathlib.Core.List.{List·Memᴰ as In}
 use Prim.Native.Nat.{ℕ, _<_}
 use native.Mathlib.Omega.{arith}
 use native.Mathlib.Decide.{ℕ-discrete}
 use lib.Dec.{eqb}
 use borrow.Author.Tests.{eqb-true}
-use Rattle.sweep.specs.Lists.{Pair, upto, keep, any, pairs}
-use Rattle.sweep.specs.Chart.{Kind, nothing, crosses, overlaps, Chart, meets, same, kind, at}
+use Rattle.sweep.specs.Lists.{Pair, any}
+use Rattle.sweep.specs.Chart.{Kind, nothing, crosses, overlaps, Chart, meets, kind}
 use Rattle.sweep.specs.Step.{starts}
-use Rattle.sweep.specs.Sought.{all, later, first, pairs-at}
+use Rattle.sweep.specs.Sought.{first, pairs-at}
 use Rattle.sweep.specs.Geometry.{Occurs, Geometry}
 use Rattle.sweep.specs.Demand.{Pieces}
-use Rattle.sweep.proofs.Tests.{ask, clash, and-both, or-one, or-left, or-right, same-test, eqb-yes}
-use Rattle.sweep.proofs.Lists.{keep-same, keep-keep, any-in, any-out}
-use Rattle.sweep.proofs.Pairs.{both, pairs-keep, upto-out}
-use Rattle.sweep.proofs.Occurring.{all-out, min-occurs}
+use Rattle.sweep.proofs.Tests.{clash, or-one, or-left, or-right, eqb-yes}
+use Rattle.sweep.proofs.Lists.{any-in, any-out}
+use Rattle.sweep.proofs.Occurring.{min-occurs}
 use Rattle.sweep.proofs.Ranked.{Ranked, ranked, same-yes, same-true, Keyed}
-use Rattle.sweep.proofs.First.{kind-cases, meets-two, two-meet, first-crosses, first-overlaps, first-min, first-on, first-occurs, first-least, later-two}
-use Rattle.sweep.proofs.Between.{Lined, Soonest}
+use Rattle.sweep.proofs.First.{kind-cases, meets-two, two-meet, first-crosses, first-overlaps, first-min, first-least, later-two}
+use Rattle.sweep.proofs.Between.{Soonest}
 use Rattle.sweep.proofs.Soonest.{starts-on, begun-in}
+use Rattle.sweep.proofs.Listing.{chosen}
 use Rattle.full_steps.specs.Steps.{State, next, reported, step}
 use Rattle.full_steps.specs.InPlace.{Sides, InPlaceFacts, block, gathered, fresh-by, fresh, fresh-pairs}
 use Rattle.full_steps.proofs.Step.{Inv, step-listed}
@@ -32,7 +31,7 @@ use Rattle.full_steps.proofs.Sides.{F, N}
 use Rattle.full_steps.proofs.Replaced.{block-out, block-in}
 
 module _ (C : Chart) (S : Sides C) (G : Geometry C) (A : InPlaceFacts C S G) (s : State C) (I : Inv C (ranked C G) s) (p : C .Point) (hp : next C s ≡ some p) where
-  open Chart C using (n, min, max)
+  open Chart C using (n, min)
   open Keyed ((F C S G A) .keyed) using (key)
 
   abbrev R : Ranked C
@@ -114,31 +113,9 @@ module _ (C : Chart) (S : Sides C) (G : Geometry C) (A : InPlaceFacts C S G) (s 
       (first-min C R q v k))
       (meets-two (kind C q) m)
 
-  new-is : (q : Pair) → Pieces C q → (both part q && fresh C S p q) ≡ (meets (kind C q) && same C (first C q) p)
-  new-is q v = same-test (both part q && fresh C S p q) (meets (kind C q) && same C (first C q) p) to fro
-    where
-      to : (both part q && fresh C S p q) ≡ true → (meets (kind C q) && same C (first C q) p) ≡ true
-      to e =
-          let r = and-both (both part q) (fresh C S p q) e in
-          let t = and-both (part (q .0)) (part (q .1)) (r .0) in
-          let m = fresh-first q v (part-on (q .0) (omega arith) (t .0)) (part-on (q .1) (v .1) (t .1)) (r .1) in
-          rw (m .0, same-yes C (R .keyed) (first C q) p (first-occurs C R q v (m .0)) op (m .1))
-
-      fro : (meets (kind C q) && same C (first C q) p) ≡ true → (both part q && fresh C S p q) ≡ true
-      fro e =
-          let r = and-both (meets (kind C q)) (same C (first C q) p) e in
-          let o = first-occurs C R q v (r .0) in
-          let d = same-true C (R .keyed) (first C q) p o op (r .1) in
-          let g : first C q ≡ p = R .keyed .key-inj (first C q) p o op d in
-          let t = first-on C R q v (r .0) in
-          rw (on-part (q .0) (omega arith) (rw g at (t .0)), on-part (q .1) (v .1) (rw g at (t .1)), first-fresh q v (r .0) d)
-
   fresh-pairs-at : fresh-pairs C S (s .active) p ≡ pairs-at C p
-  unfolding fresh-pairs gathered pairs-at all
-  fresh-pairs-at =
-      rw (pairs-keep part (upto n))
-      (keep-keep (fresh C S p) (both part) (all C)
-      ∙ keep-same (λ q. both part q && fresh C S p q) (λ q. meets (kind C q) && same C (first C q) p) (all C) (λ q m. new-is q (all-out C m)))
+  unfolding fresh-pairs gathered
+  fresh-pairs-at = chosen C R p op part part-on on-part (fresh C S p) fresh-first first-fresh
 
   pub same-listed : reported C s p ≡ s .listed ++ fresh-pairs C S (s .active) p
   unfolding step
