@@ -7,3 +7,5 @@ pub mod Promises
 pub mod Sides
 pub mod Replaced
 pub mod Fresh
+pub mod Adjacent
+pub mod Lanes

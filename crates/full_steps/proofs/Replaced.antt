@@ -16,7 +16,7 @@ use Rattle.sweep.specs.Geometry.{Occurs, Under, Geometry}
 use Rattle.sweep.specs.Ported.{isLess, isEqual}
 use Rattle.sweep.proofs.Tests.{ask, not-true}
 use Rattle.sweep.proofs.Lists.{keep-in, keep-out, pairwise-map, pairwise-append, pairwise-keep, pairwise-left, pairwise-right, pairwise-across}
-use Rattle.sweep.proofs.Sorting.{sort-in, sort-out, sort-sorted, sorted-same}
+use Rattle.sweep.proofs.Sorting.{sort-in, sort-out, sort-once, sort-sorted, sorted-same}
 use Rattle.sweep.proofs.Pairs.{upto-out, upto-once}
 use Rattle.sweep.proofs.Occurring.{min-occurs, max-occurs}
 use Rattle.sweep.proofs.Ranked.{Act, Ranked, ranked, ranked-on, on-ranked, less-yes, less-no, Keyed}
@@ -143,6 +143,10 @@ module _ (C : Chart) (S : Sides C) (G : Geometry C) (A : InPlaceFacts C S G) (s 
       sym (rises-is x z a c) ∙ R .before-trans p op x y z (a .0) (b .0) (c .0) (rises-is x y a b ∙ e) (rises-is y z b c ∙ d))
       (λ x y a b ne e. sym (rises-is y x b a) ∙ R .before-total p op x y (a .0) (b .0) ne (rises-is x y a b ∙ e))
       (goers ++ comers) through comes-once)
+
+  pub renewed-once : Pairwise (λ i j. i ≢ j) (renewed C S (s .active) p)
+  unfolding renewed
+  renewed-once = sort-once rises (goers ++ comers) comes-once
 
   -- ---- all of it in order
   abbrev Calm : ℕ → ℕ → Type 0
