@@ -11,7 +11,7 @@ use native.Mathlib.Omega.{arith}
 use native.Mathlib.Decide.{ℕ-discrete}
 use lib.ListN.{length, take, drop, length-append}
 use Rattle.fractions.specs.declared.Order.the-variants.{Less, Equal, Greater}
-use Rattle.sweep.specs.Lists.{Pair, lesser-first, adjacent, Pairwise}
+use Rattle.sweep.specs.Lists.{Pair, adjacent, Pairwise}
 use Rattle.sweep.specs.Chart.{crosses, Chart, kind, at}
 use Rattle.sweep.specs.Queue.{beyond}
 use Rattle.sweep.specs.Sought.{is-crossing}
@@ -19,10 +19,8 @@ use Rattle.sweep.specs.Geometry.{Occurs, Geometry}
 use Rattle.sweep.specs.Demand.{Pieces}
 use Rattle.sweep.proofs.Tests.{ask, clash, same-test}
 use Rattle.sweep.proofs.Lists.{pairwise-keep, pairwise-map, pairwise-left, pairwise-right}
-use Rattle.sweep.proofs.Pairs.{lesser-two, adjacent-out}
-use Rattle.sweep.proofs.Occurring.{is-crossing-true, at-occurs}
+use Rattle.sweep.proofs.Occurring.{adjacent-two, is-crossing-true, at-occurs}
 use Rattle.sweep.proofs.Ranked.{Act, Ranked, ranked, less-true, less-yes, less-no, Keyed}
-use Rattle.sweep.proofs.First.{pair-pieces}
 use Rattle.sweep.proofs.Between.{bound, bound-some, Lined, Soonest}
 use Rattle.sweep.proofs.Soonest.{beyond-yes, beyond-true}
 use Rattle.full_steps.specs.Steps.{State, next, ranged}
@@ -88,20 +86,6 @@ module _ (C : Chart) (S : Sides C) where
         let k = is-crossing-true (kind C q) e in
         less-no C (R .keyed) p (at C q) op (at-occurs C q v k) (omega (arith, ap key (R .crossing-only (q .0) (q .1) p (omega arith) (v .1) (omega arith) op k a b))))
 
-    -- an adjacent pair of a list: what holds of its members holds of the two
-    two-of : (P : ℕ → Type 0) (l : List ℕ) → ((i : ℕ) → In i l → (i < n) × P i) → Pairwise (λ i j. i ≢ j) l → (q : Pair) → In q (adjacent l) → Pieces C q × (P (q .0) × P (q .1))
-    two-of P l f d q m =
-        let r = adjacent-out l m d in
-        let a = f (r .0) (r .2) in
-        let b = f (r .1) (r .3) in
-        rw (r .5) (
-          pair-pieces C R (r .0) (r .1) (a .0) (b .0) (r .4),
-          ⊎-elim
-              (λ (e : lesser-first (r .0) (r .1) ≡ (r .0, r .1)). rw e (a .1, b .1))
-              (λ (e : lesser-first (r .0) (r .1) ≡ (r .1, r .0)). rw e (b .1, a .1))
-              (lesser-two (r .0) (r .1)),
-        )
-
     abbrev b : List ℕ
     b = below C S (s .active) p
 
@@ -127,14 +111,14 @@ module _ (C : Chart) (S : Sides C) where
     above-off i m = let t = above-out C S G A s I p hp i m in off i (t .0) (λ e. let z : _≡_ {A = ℕ} 0 1 = cc (t .1) in absurd (omega arith))
 
     stays : (l : List ℕ) → ((i : ℕ) → In i l → (i < n) × ¬ R .On i p) → Pairwise (λ i j. i ≢ j) l → map (lane C S (some p)) (adjacent l) ≡ map (lane C S (s .last)) (adjacent l)
-    stays l f d = map-same (lane C S (some p)) (lane C S (s .last)) (adjacent l) (λ q m. let t = two-of (λ i. ¬ R .On i p) l f d q m in lane-stays q (t .0) (λ o. t .1 .0 (o .0)))
+    stays l f d = map-same (lane C S (some p)) (lane C S (s .last)) (adjacent l) (λ q m. let t = adjacent-two C (λ i. ¬ R .On i p) l f d q m in lane-stays q (t .0) (λ o. t .1 .0 (o .0)))
 
     closes : map (lane C S (some p)) (adjacent r) ≡ map (λ q. none) (adjacent r)
     closes =
         map-same (lane C S (some p)) (λ q. none) (adjacent r)
         (λ q m.
         let t =
-        two-of (λ i. R .On i p) r (λ i h. let u = renewed-through C S G A s I p hp i h in (u .0 .0, u .1)) (renewed-once C S G A s I p hp) q m
+        adjacent-two C (λ i. R .On i p) r (λ i h. let u = renewed-through C S G A s I p hp i h in (u .0 .0, u .1)) (renewed-once C S G A s I p hp) q m
         in
         lane-closes q (t .0) (t .1 .0) (t .1 .1))
 
