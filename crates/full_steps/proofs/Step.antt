@@ -18,11 +18,10 @@ use Rattle.sweep.specs.Geometry.{Occurs}
 use Rattle.sweep.specs.Demand.{Pieces}
 use Rattle.sweep.proofs.Tests.{or-one, or-left, or-right, not-true}
 use Rattle.sweep.proofs.Lists.{keep-in, keep-out, pairwise-keep, pairwise-append}
-use Rattle.sweep.proofs.Pairs.{upto-in, upto-out, upto-once, adjacent-out}
-use Rattle.sweep.proofs.Occurring.{is-crossing-true, is-crossing-yes, min-in, max-in, ends-out, end-occurs, min-occurs, max-occurs, at-occurs}
+use Rattle.sweep.proofs.Pairs.{upto-in, upto-out, upto-once}
+use Rattle.sweep.proofs.Occurring.{adjacent-two, is-crossing-true, is-crossing-yes, min-in, max-in, ends-out, end-occurs, min-occurs, max-occurs, at-occurs}
 use Rattle.sweep.proofs.Least.{least-some, least-none}
 use Rattle.sweep.proofs.Ranked.{Act, Ranked, Keyed}
-use Rattle.sweep.proofs.First.{pair-pieces}
 use Rattle.sweep.proofs.Between.{bound, Met, Lined, lined-none, met-none, Soonest, no-point}
 use Rattle.sweep.proofs.Soonest.{beyond-yes, beyond-true, inside, starts-on, finishes-on, inside-on, on-cases, goes-on, starts-act, act-late, act-cases, starts-apart}
 use Rattle.sweep.proofs.Lining.{sorted-lined}
@@ -57,9 +56,7 @@ module _ (C : Chart) where
       L = I .lined
 
       beside-pieces : (q : Pair) → In q (adjacent (s .active)) → Pieces C q
-      beside-pieces q m =
-          let r = adjacent-out (s .active) m (L .once) in
-          rw (r .5) (pair-pieces C F (r .0) (r .1) ((L .active-out (r .0) (r .2)) .0) ((L .active-out (r .1) (r .3)) .0) (r .4))
+      beside-pieces q m = (adjacent-two C (λ i. i < n) (s .active) (λ i h. let o = L .active-out i h in (o .0, o .0)) (L .once) q m) .0
 
       queue-min : (i : ℕ) → i < n → bound key (s .last) ≤ key (min i) → In (min i) (queue C s)
       unfolding queue

@@ -8,8 +8,8 @@ use Prim.Native.Nat.{ℕ}
 use Rattle.sweep.specs.Chart.{Chart}
 use Rattle.sweep.specs.Geometry.{Geometry}
 use Rattle.sweep.specs.Demand.{Run, RunPromises}
-use Rattle.full_steps.specs.Steps.{next, reported, ranged, run, visited, answer}
-use Rattle.full_steps.specs.InPlace.{Sides, InPlaceFacts, below, block, above, replaced, fresh-pairs, lanes, relaned, held-run, held-answer}
+use Rattle.full_steps.specs.Steps.{State, next, reported, ranged, run, visited, answer}
+use Rattle.full_steps.specs.InPlace.{Sides, InPlaceFacts, below, block, above, replaced, fresh-pairs, lanes, relaned, Held, held-next, held-run, held-answer}
 
 -- the run of the new mode
 abbrev pub full-run : (C : Chart) → Run C
@@ -34,13 +34,14 @@ module _ (C : Chart) (S : Sides C) where
   abbrev pub StepsInPlace : Type 0
   StepsInPlace = (m : ℕ) (p : C .Point) → next C (run C m) ≡ some p → InPlaceAt m p
 
-  -- so a run in place holds what the run does, with its lanes, and answers the same
+  -- a state, with its lanes
+  abbrev pub held-of : State C → Held C S
+  held-of s = record { active = s .active; lanes = lanes C S (s .last) (s .active); listed = s .listed; last = s .last; steps = s .steps }
+
+  -- so a run in place holds what the run does, and answers the same
   pub record Holds (m : ℕ) : Type 0 where
-    pub same-active : (held-run C S m) .active ≡ (run C m) .active
-    pub same-lanes : (held-run C S m) .lanes ≡ lanes C S ((run C m) .last) ((run C m) .active)
-    pub same-listed : (held-run C S m) .listed ≡ (run C m) .listed
-    pub same-last : (held-run C S m) .last ≡ (run C m) .last
-    pub same-steps : (held-run C S m) .steps ≡ (run C m) .steps
+    pub same-state : held-run C S m ≡ held-of (run C m)
+    pub same-next : held-next C S (held-run C S m) ≡ next C (run C m)
     pub same-answer : held-answer C S m ≡ answer C m
 
 abbrev pub InPlace : Type 1

@@ -13,11 +13,12 @@ use Rattle.sweep.specs.Lists.{Pair, among, upto, keep, pairs, Pairwise}
 use Rattle.sweep.specs.Chart.{Chart, meets, same, kind}
 use Rattle.sweep.specs.Step.{each}
 use Rattle.sweep.specs.Sought.{all, first, pairs-at}
+use Rattle.sweep.specs.Geometry.{Occurs}
 use Rattle.sweep.specs.Demand.{Pieces}
 use Rattle.sweep.proofs.Tests.{ask, clash, and-both, not-true, same-test}
 use Rattle.sweep.proofs.Lists.{keep-yes, keep-no, keep-keep, keep-same, pairwise-keep}
-use Rattle.sweep.proofs.Pairs.{both, pairs-keep, among-in, among-no, among-snoc}
-use Rattle.sweep.proofs.Occurring.{all-out, all-once}
+use Rattle.sweep.proofs.Pairs.{both, upto-up, pairs-keep, pairs-once, among-in, among-no, among-snoc}
+use Rattle.sweep.proofs.Occurring.{all-out}
 use Rattle.sweep.proofs.Ranked.{Ranked, same-yes, same-true, Keyed}
 use Rattle.sweep.proofs.First.{first-on, first-occurs, first-least, pairs-at-in, pairs-at-out}
 use Rattle.sweep.proofs.Between.{bound, Met, Soonest}
@@ -25,6 +26,38 @@ use Rattle.sweep.proofs.Between.{bound, Met, Soonest}
 module _ (C : Chart) where
   abbrev pub unlisted : List Pair → Pair → Bool
   unlisted listed q = not (among q listed) && meets (kind C q)
+
+  -- a choice among the pairs of the pieces on p that takes those that meet first there, and no other
+  module _ (F : Ranked C) (p : C .Point) (op : Occurs C p) (part : ℕ → Bool)
+      (part-on : (i : ℕ) → i < C .n → part i ≡ true → F .On i p) (on-part : (i : ℕ) → i < C .n → F .On i p → part i ≡ true)
+      (choice : Pair → Bool)
+      (sound : (q : Pair) → Pieces C q → F .On (q .0) p → F .On (q .1) p → choice q ≡ true → (meets (kind C q) ≡ true) × (F .keyed .key (first C q) ≡ F .keyed .key p))
+      (whole : (q : Pair) → Pieces C q → meets (kind C q) ≡ true → F .keyed .key (first C q) ≡ F .keyed .key p → choice q ≡ true) where
+    choice-is : (q : Pair) → Pieces C q → (both part q && choice q) ≡ (meets (kind C q) && same C (first C q) p)
+    choice-is q v = same-test (both part q && choice q) (meets (kind C q) && same C (first C q) p) to fro
+      where
+        to : (both part q && choice q) ≡ true → (meets (kind C q) && same C (first C q) p) ≡ true
+        to e =
+            let r = and-both (both part q) (choice q) e in
+            let t = and-both (part (q .0)) (part (q .1)) (r .0) in
+            let m = sound q v (part-on (q .0) (omega arith) (t .0)) (part-on (q .1) (v .1) (t .1)) (r .1) in
+            rw (m .0, same-yes C (F .keyed) (first C q) p (first-occurs C F q v (m .0)) op (m .1))
+
+        fro : (meets (kind C q) && same C (first C q) p) ≡ true → (both part q && choice q) ≡ true
+        fro e =
+            let r = and-both (meets (kind C q)) (same C (first C q) p) e in
+            let o = first-occurs C F q v (r .0) in
+            let d = same-true C (F .keyed) (first C q) p o op (r .1) in
+            let g : first C q ≡ p = F .keyed .key-inj (first C q) p o op d in
+            let t = first-on C F q v (r .0) in
+            rw (on-part (q .0) (omega arith) (rw g at (t .0)), on-part (q .1) (v .1) (rw g at (t .1)), whole q v (r .0) d)
+
+    pub chosen : keep choice (pairs (keep part (upto (C .n)))) ≡ pairs-at C p
+    unfolding pairs-at all
+    chosen =
+        rw (pairs-keep part (upto (C .n)))
+        (keep-keep choice (both part) (all C)
+        ∙ keep-same (λ q. both part q && choice q) (λ q. meets (kind C q) && same C (first C q) p) (all C) (λ q m. choice-is q (all-out C m)))
 
   -- a pass that appends each pair that is not listed yet and meets, over distinct pairs: it lists those that were not
   -- listed before it
@@ -52,43 +85,21 @@ module _ (C : Chart) where
         (s : S) (M : Met C F (bound (F .keyed .key) last) (listed s)) where
       open Keyed (F .keyed) using (key)
 
-      -- a pair that meets first at p takes part
-      first-part : (q : Pair) → Pieces C q → meets (kind C q) ≡ true → key (first C q) ≡ key p → both part q ≡ true
-      first-part q v e d =
-          let o = first-on C F q v e in
-          let g : first C q ≡ p = F .keyed .key-inj (first C q) p (first-occurs C F q v e) (N .occurs) d in
-          rw (on-part (q .0) (omega arith) (rw g at (o .0)), on-part (q .1) (v .1) (rw g at (o .1)))
+      sound : (q : Pair) → Pieces C q → F .On (q .0) p → F .On (q .1) p → unlisted (listed s) q ≡ true → (meets (kind C q) ≡ true) × (key (first C q) ≡ key p)
+      sound q v a b e =
+          let t = and-both (not (among q (listed s))) (meets (kind C q)) e in
+          let le = first-least C F q p (N .occurs) v (t .1) a b in
+          by-cases (decLt (key (first C q)) (bound key last))
+          (λ (k : key (first C q) < bound key last). clash (among-in (M .full q v (t .1) k)) (not-true _ (t .0)))
+          (λ (k : ¬ (key (first C q) < bound key last)). (t .1, omega (arith, N .least (first C q) (first-occurs C F q v (t .1)) (omega arith))))
 
-      new-is : (q : Pair) → Pieces C q → (both part q && unlisted (listed s) q) ≡ (meets (kind C q) && same C (first C q) p)
-      new-is q v = same-test (both part q && unlisted (listed s) q) (meets (kind C q) && same C (first C q) p) to fro
-        where
-          to : (both part q && unlisted (listed s) q) ≡ true → (meets (kind C q) && same C (first C q) p) ≡ true
-          to e =
-              let r = and-both (both part q) (unlisted (listed s) q) e in
-              let b = and-both (part (q .0)) (part (q .1)) (r .0) in
-              let t = and-both (not (among q (listed s))) (meets (kind C q)) (r .1) in
-              let le = first-least C F q p (N .occurs) v (t .1) (part-on (q .0) (omega arith) (b .0)) (part-on (q .1) (v .1) (b .1)) in
-              by-cases (decLt (key (first C q)) (bound key last))
-              (λ (k : key (first C q) < bound key last). clash (among-in (M .full q v (t .1) k)) (not-true _ (t .0)))
-              (λ (k : ¬ (key (first C q) < bound key last)).
-              let o = first-occurs C F q v (t .1) in
-              rw (t .1, same-yes C (F .keyed) (first C q) p o (N .occurs) (omega (arith, N .least (first C q) o (omega arith)))))
-
-          fro : (meets (kind C q) && same C (first C q) p) ≡ true → (both part q && unlisted (listed s) q) ≡ true
-          fro e =
-              let r = and-both (meets (kind C q)) (same C (first C q) p) e in
-              let d = same-true C (F .keyed) (first C q) p (first-occurs C F q v (r .0)) (N .occurs) (r .1) in
-              let u = N .new in
-              rw (first-part q v (r .0) d, among-no q (listed s) (λ m. omega (arith, (M .met q m) .2)), r .0)
+      whole : (q : Pair) → Pieces C q → meets (kind C q) ≡ true → key (first C q) ≡ key p → unlisted (listed s) q ≡ true
+      whole q v e d = let u = N .new in rw (among-no q (listed s) (λ m. omega (arith, (M .met q m) .2)), e)
 
       pub pass-lists : listed (each f (pairs (keep part (upto (C .n)))) s) ≡ listed s ++ pairs-at C p
-      unfolding pairs-at all
       pass-lists =
-          rw (pairs-keep part (upto (C .n)))
-          (passed (keep (both part) (all C)) s (pairwise-keep (λ q r. q ≢ r) (both part) (all C) (all-once C))
-          ∙ ap (λ (z : List Pair). listed s ++ z)
-          (keep-keep (unlisted (listed s)) (both part) (all C)
-          ∙ keep-same (λ q. both part q && unlisted (listed s) q) (λ q. meets (kind C q) && same C (first C q) p) (all C) (λ q m. new-is q (all-out C m))))
+          passed (pairs (keep part (upto (C .n)))) s (pairs-once (keep part (upto (C .n))) (pairwise-keep _<_ part (upto (C .n)) (upto-up (C .n))))
+          ∙ ap (λ (z : List Pair). listed s ++ z) (chosen F p (N .occurs) part part-on on-part (unlisted (listed s)) sound whole)
 
   -- with the pairs that meet first at the next point, the list holds those that met up to it
   module _ (F : Ranked C) (last : Option (C .Point)) (p : C .Point) (N : Soonest C F last p) (listed : List Pair) (M : Met C F (bound (F .keyed .key) last) listed) where

@@ -5,9 +5,9 @@ use mathlib.Core.Bool.{true, false, _&&_, _||_, not}
 use mathlib.Core.Option.{some}
 use mathlib.Core.List.{List, _++_, Memᴰ·append-left, Memᴰ·append-right, List·Memᴰ·append-cases}
 use mathlib.Core.List.{List·Memᴰ as In}
-use Prim.Native.Nat.{ℕ}
+use Prim.Native.Nat.{ℕ, _≤_}
 use native.Mathlib.Omega.{arith}
-use Rattle.sweep.specs.Lists.{Pair, lesser-first, adjacent, Pairwise}
+use Rattle.sweep.specs.Lists.{Pair, adjacent, Pairwise}
 use Rattle.sweep.specs.Chart.{Chart}
 use Rattle.sweep.specs.State.{Marks, State}
 use Rattle.sweep.specs.Queue.{next}
@@ -17,11 +17,10 @@ use Rattle.sweep.specs.Geometry.{Occurs}
 use Rattle.sweep.specs.Demand.{Pieces}
 use Rattle.sweep.proofs.Tests.{ask, clash, or-left, or-right}
 use Rattle.sweep.proofs.Lists.{keep-in, pairwise-append}
-use Rattle.sweep.proofs.Pairs.{upto-in, lesser-two, adjacent-out}
+use Rattle.sweep.proofs.Pairs.{upto-in}
 use Rattle.sweep.proofs.Active.{stay-out, enter-out, stay-once, enter-once}
-use Rattle.sweep.proofs.Occurring.{max-occurs}
+use Rattle.sweep.proofs.Occurring.{adjacent-two, max-occurs}
 use Rattle.sweep.proofs.Ranked.{Act, Ranked, same-false, Keyed}
-use Rattle.sweep.proofs.First.{pair-pieces}
 use Rattle.sweep.proofs.Between.{bound, Lined, Soonest}
 use Rattle.sweep.proofs.Soonest.{goes-on, starts-act, act-late, act-cases, starts-apart}
 use Rattle.sweep.proofs.Lining.{sorted-act, sorted-once, sorted-lined}
@@ -31,7 +30,7 @@ use Rattle.sweep.proofs.Reported.{reported-good, reported-listed}
 use Rattle.sweep.proofs.Examined.{Begun, After, examined-after}
 
 module _ (C : Chart) (F : Ranked C) (s : State C) (I : Inv C F s) (p : C .Point) (hp : next C s ≡ some p) where
-  open Chart C using (n, max)
+  open Chart C using (n, min, max)
   open Keyed (F .keyed) using (key)
 
   N : Soonest C F (s .last) p
@@ -85,17 +84,7 @@ module _ (C : Chart) (F : Ranked C) (s : State C) (I : Inv C F s) (p : C .Point)
   once = pairwise-append (λ i j. i ≢ j) (stay C s p) (enter C s p) (stay-once C s p (I .lined .once)) (enter-once C s p) apart
 
   adjacent-ok : (l : List ℕ) → ((i : ℕ) → In i l → Act C key p i) → Pairwise (λ i j. i ≢ j) l → (q : Pair) → In q (adjacent l) → Pieces C q × Begun C F p op q
-  adjacent-ok l f d q m =
-      let r = adjacent-out l m d in
-      let a = f (r .0) (r .2) in
-      let b = f (r .1) (r .3) in
-      rw (r .5) (
-        pair-pieces C F (r .0) (r .1) (a .0) (b .0) (r .4),
-        ⊎-elim
-            (λ (e : lesser-first (r .0) (r .1) ≡ (r .0, r .1)). rw e (a .1, b .1))
-            (λ (e : lesser-first (r .0) (r .1) ≡ (r .1, r .0)). rw e (b .1, a .1))
-            (lesser-two (r .0) (r .1)),
-      )
+  adjacent-ok l f d q m = adjacent-two C (λ i. key (min i) ≤ key p) l (λ i h. let a = f i h in (a .0, a .1)) d q m
 
   abbrev once-looked : Marks
   once-looked = each (examine C p) (adjacent (stay C s p)) (reported C s p)
