@@ -1,5 +1,5 @@
--- The new mode on every accepted list of numbers: it keeps every promise, and without upright pieces it answers as the
--- ported mode does.
+-- The new mode on every accepted list of numbers: it keeps every promise, it can be done in place, and without upright
+-- pieces it answers as the ported mode does.
 use mathlib.Core.Path.{_≡_, sym, ap, _∙_}
 use mathlib.Core.Logic.{⊎-elim}
 use mathlib.Core.Bool.{Bool, true, false, not}
@@ -21,9 +21,10 @@ use Rattle.sweep_geometry.proofs.Promises.{ported-sweeps}
 use Rattle.sweep_geometry.proofs.Accepted.{list-proper, list-flat, run-meetings}
 use Rattle.full_steps.specs.Demand.{full-run}
 use Rattle.full_steps.proofs.Promises.{promises, tells, says-complete}
-use Rattle.full_order.specs.Finer.{finerOrder, finer}
-use Rattle.full_order.specs.Demand.{ListFullSweeps, FullListsMeetings, SameModes, SameWithoutUprights}
-use Rattle.full_order.proofs.Promises.{finer-geometry}
+use Rattle.full_steps.proofs.Held.{in-place}
+use Rattle.full_order.specs.Finer.{finerOrder, finer, sidesOf}
+use Rattle.full_order.specs.Demand.{ListFullSweeps, FullListsMeetings, ListInPlace, SameModes, SameWithoutUprights}
+use Rattle.full_order.proofs.Promises.{finer-geometry, in-place-facts}
 
 module _ (n : ℕ) (piece : ℕ → LineSegment) (ok : AllProper n piece) where
   abbrev before : Point → ℕ → ℕ → Bool
@@ -59,6 +60,11 @@ list-full-sweeps list n e = full-promises n (pieceAt list) (list-proper list n e
 pub full-lists-meetings : FullListsMeetings
 full-lists-meetings list n e =
     run-meetings list n e (before n (pieceAt list) (list-proper list n e)) (full-run (finer n (pieceAt list))) ((list-full-sweeps list n e) .lists-all)
+
+pub list-in-place : ListInPlace
+list-in-place list n e =
+    let ok = list-proper list n e in
+    in-place (finer n (pieceAt list)) (sidesOf n (pieceAt list)) (finer-geometry n (pieceAt list) ok) (in-place-facts n (pieceAt list) ok)
 
 pub same-without-uprights : SameWithoutUprights
 same-without-uprights list n e f = same-modes n (pieceAt list) (list-proper list n e) (list-flat list n f)

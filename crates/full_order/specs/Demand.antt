@@ -18,7 +18,7 @@ use Rattle.sweep.specs.Run.{answer as portedAnswer}
 use Rattle.sweep_geometry.specs.Demand.{AllProper}
 use Rattle.full_steps.specs.Steps.{answer}
 use Rattle.full_steps.specs.InPlace.{InPlaceFacts}
-use Rattle.full_steps.specs.Demand.{full-run}
+use Rattle.full_steps.specs.Demand.{full-run, StepsInPlace, Holds}
 use Rattle.full_order.specs.Finer.{finerOrder, finer, sidesOf}
 
 -- the facts of geometry that a sweep needs of its order, and those that a step done in place needs
@@ -35,6 +35,12 @@ FullListsMeetings =
     (list : List ℤ) (n : ℕ) → verdictOf list ≡ Accepted n
     → (budget : ℕ) → (answer (finer n (pieceAt list)) budget) .ended ≡ true
     → (i j : ℕ) → In (i, j) ((answer (finer n (pieceAt list)) budget) .listed) ↔ ((i < j) × (j < n) × Meet (pieceAt list i) (pieceAt list j))
+
+-- a run done in place, block by block, holds what the run does and answers the same
+abbrev pub ListInPlace : Type 0
+ListInPlace =
+    (list : List ℤ) (n : ℕ) → verdictOf list ≡ Accepted n
+    → StepsInPlace (finer n (pieceAt list)) (sidesOf n (pieceAt list)) × ((m : ℕ) → Holds (finer n (pieceAt list)) (sidesOf n (pieceAt list)) m)
 
 -- "on a chart without upright pieces both modes give the same answer, at every budget"
 pub record SameModes (n : ℕ) (piece : ℕ → LineSegment) : Type 0 where

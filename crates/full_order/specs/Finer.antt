@@ -1,4 +1,4 @@
--- The order of the active list in the full mode: as the pieces stand just after p. "by height at p's x; of one height above
+-- The order of the active list in the new mode: as the pieces stand just after p. "by height at p's x; of one height above
 -- p's y, by falling slope (they meet ahead, at that same x), else by rising slope; then by number."
 use mathlib.Core.Bool.{Bool, cond}
 use Prim.Native.Nat.{ℕ}
