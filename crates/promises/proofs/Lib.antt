@@ -8,3 +8,6 @@ pub mod Geometry
 pub mod Budgets
 pub mod Sweeping
 pub mod Ported
+pub mod Pairs
+pub mod Reader
+pub mod C

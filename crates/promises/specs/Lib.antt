@@ -4,3 +4,6 @@ pub mod Refusals
 pub mod Chart
 pub mod AllPairs
 pub mod Sweep
+pub mod Pair
+pub mod Reader
+pub mod C
