@@ -11,3 +11,4 @@ pub mod Ported
 pub mod Pairs
 pub mod Reader
 pub mod C
+pub mod Once

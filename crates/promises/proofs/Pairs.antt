@@ -199,9 +199,9 @@ test-promises =
           let l = long list n d in
           rw (o .returned ∙ test-done list n d) (tested (pieceAt list 0) (pieceAt list 1) (l .0) (l .1) (intersectOf (pieceAt list 0) (pieceAt list 1)) refl);
       refusals = refusing pair-decided
-      (λ list r o k p d. o .returned ∙ test-refused list k p d)
-      (λ list r o c. let z = fields-zero (intersectOf (pieceAt list 0) (pieceAt list 1)) in rw (o .returned ∙ test-done list (c .0) (c .1)) z)
-      (λ list k p. (refl, refl));
+          (λ list r o k p d. o .returned ∙ test-refused list k p d)
+          (λ list r o c. let z = fields-zero (intersectOf (pieceAt list 0) (pieceAt list 1)) in rw (o .returned ∙ test-done list (c .0) (c .1)) z)
+          (λ list k p. (refl, refl));
     }
 
 -- ---- the place
@@ -250,7 +250,7 @@ place-promises =
           (located (pieceAt list 0) (pieceAt list 1) (l .0) (l .1) (place list)
           (place-is-due (pieceAt list 0) (pieceAt list 1) (l .0) (l .1) (given-in-range list 0) (given-in-range list 1)));
       refusals = refusing pair-decided
-      (λ list r o k p d. o .returned ∙ place-refused list k p d)
-      (λ list r o c. rw (o .returned ∙ place-done list (c .0) (c .1)) (values-zero (place list)))
-      (λ list k p. (refl, refl));
+          (λ list r o k p d. o .returned ∙ place-refused list k p d)
+          (λ list r o c. rw (o .returned ∙ place-done list (c .0) (c .1)) (values-zero (place list)))
+          (λ list k p. (refl, refl));
     }

@@ -7,3 +7,4 @@ pub mod Sweep
 pub mod Pair
 pub mod Reader
 pub mod C
+pub mod Once
