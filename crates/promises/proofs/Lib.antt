@@ -12,3 +12,4 @@ pub mod Pairs
 pub mod Reader
 pub mod C
 pub mod Once
+pub mod Heights

@@ -8,3 +8,4 @@ pub mod Pair
 pub mod Reader
 pub mod C
 pub mod Once
+pub mod Heights
