@@ -13,3 +13,4 @@ pub mod Reader
 pub mod C
 pub mod Once
 pub mod Heights
+pub mod Useless

@@ -9,3 +9,4 @@ pub mod Reader
 pub mod C
 pub mod Once
 pub mod Heights
+pub mod Useless
