@@ -14,3 +14,4 @@ pub mod C
 pub mod Once
 pub mod Heights
 pub mod Useless
+pub mod OnePlace
