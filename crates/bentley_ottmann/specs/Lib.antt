@@ -1,5 +1,4 @@
--- What the sweep's call answers (`Swept`), what is promised of it (`Demand`), and what its run tells (`Running`).
--- In quotation marks: docs/CHART.md, budget, answer of a sweep, refusal, room, longer budgets, demand 3.
+-- What the sweep's call answers (`Swept`), and what its run tells (`Running`).
+-- In quotation marks: docs/CHART.md, budget, answer of a sweep, refusal, room.
 pub mod Swept
 pub mod Running
-pub mod Demand

@@ -1,0 +1,38 @@
+-- What a C caller reads in the fields of a sweep, so that all promises of the sweep hold of the call for C.
+use mathlib.Core.Path.{_≡_}
+use mathlib.Core.Bool.{Bool, true, false}
+use mathlib.Core.List.{List}
+use Prim.Native.Nat.{ℕ}
+use lib.IntN.{ℤ}
+use lib.ListN.{length}
+use Rattle.fractions.specs.declared.Point.{Point}
+use Rattle.bentley_ottmann.specs.declared.Last.{Last}
+use Rattle.bentley_ottmann.specs.declared.Last.the-variants.{None, At}
+use Rattle.bentley_ottmann.specs.declared.Swept.{Swept}
+use Rattle.bentley_ottmann.specs.Swept.{sweepOf, lentAfter}
+use Rattle.chart_c.specs.declared.SweptFields.{SweptFields}
+use Rattle.chart_c.specs.Sweeps.{sweptFields}
+
+-- "where `visited`, the last point is x/d, y/d"
+abbrev pub lastRead : Bool → Point → Last
+lastRead true p = At p
+lastRead false p = None
+
+abbrev pub sweptRead : SweptFields → Swept
+sweptRead r =
+    record {
+      number = r .number;
+      place = r .place;
+      pairs = r .pairs;
+      steps = r .steps;
+      ended = r .ended;
+      complete = r .complete;
+      last = lastRead (r .visited) (record { x = r .x; y = r .y; d = r .d });
+    }
+
+-- what the contract of `mirtalughe_sweep` allows
+pub record InFields (list : List ℤ) (budget : ℕ) (lent : List ℕ) (s : Swept) (after : List ℕ) : Type 0 where
+  pub fields : SweptFields
+  pub returned : fields ≡ sweptFields (sweepOf list budget (length lent))
+  pub left : after ≡ lentAfter list budget lent
+  pub read : s ≡ sweptRead fields
