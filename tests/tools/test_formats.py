@@ -1,5 +1,6 @@
 """The readable text, the chart file and the listing: round trips, limits on both sides, and whatever may be damaged."""
 import random
+import re
 import unittest
 from pathlib import Path
 
@@ -7,6 +8,7 @@ from formats import LIMIT, MOST_PIECES, Chart, Meeting, Piece, Refused, Wrong
 from formats import chart_of_file, chart_of_text, file_of_chart, listing_of_text, text_of_chart
 
 ROOT = Path(__file__).parents[2]
+REPLAY = ROOT / "crates/replay"
 SCOPES_TEXT = b"3 0 0 4 4\n3 0 4 4 0\n"
 SCOPES_FILE = bytes.fromhex("02 03 00 00 08 08 03 00 08 08 00")
 
@@ -21,10 +23,20 @@ def random_chart(seed):
     return Chart(pieces)
 
 
-def recorded(name, file):
-    """Recorded answers stand beside the program that replays them or, where none does, in tests/recorded."""
-    replayed = ROOT / "crates" / f"replay_{name}"
-    return (replayed if replayed.is_dir() else ROOT / "tests/recorded" / name) / file
+def recorded(letter):
+    """The files of the recorded questions under a letter (tests/recorded/README.md)."""
+    data, at, files = (REPLAY / "stdin").read_bytes(), 0, []
+    while at < len(data):
+        end = at + 3 + int.from_bytes(data[at + 1 : at + 3], "little")
+        if data[at] == ord(letter):
+            files.append(data[at + 3 : end])
+        at = end
+    return files
+
+
+def answers():
+    """What the Rust says to all recorded questions: readings first, a line each, and listings last."""
+    return (REPLAY / "stdout").read_text()
 
 
 def told(form, data):
@@ -130,15 +142,11 @@ class File(unittest.TestCase):
 
     def test_recorded_answers(self):
         """Every file of the recorded readings gets its recorded numbers, or its refusal and place."""
-        given = recorded("file", "stdin").read_bytes()
-        answers = recorded("file", "stdout").read_text().splitlines()
-        at, seen = 0, set()
-        for answer in answers:
-            size = int.from_bytes(given[at : at + 2], "little")
-            data, at = given[at + 2 : at + 2 + size], at + 2 + size
+        files, seen = recorded("r"), set()
+        for data, answer in zip(files, answers().splitlines()):
             self.assertEqual(reading(data), answer, data.hex(" "))
             seen.add(answer.split()[1] if answer.startswith("refused") else "read")
-        self.assertEqual(at, len(given))
+        self.assertGreater(len(files), 100)
         self.assertEqual(seen, {"read", *"1234567"})
 
     def test_what_is_told(self):
@@ -182,8 +190,8 @@ class Listings(unittest.TestCase):
 
     def test_recorded_answers(self):
         """Every listing of the recorded ones is read, and written out again it is the same."""
-        text = recorded("chart", "stdout").read_text()
-        listings = ["chart" + rest for rest in text.split("chart")[1:]]
+        listings = re.split(r"(?m)^(?=chart \d+$)", answers())[1:]
+        self.assertEqual(len(listings), len(recorded("l")))
         self.assertGreater(len(listings), 100)
         for given in listings:
             self.assertEqual(rewritten(listing_of_text(given.encode())), given)
