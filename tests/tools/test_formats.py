@@ -152,7 +152,7 @@ class File(unittest.TestCase):
     def test_what_is_told(self):
         for data, said in (
             ("", "byte 0: the count is due (refused 1: "),
-            ("41", "byte 0: the count is 65 (refused 3: count above 64)"),
+            (f"{MOST_PIECES + 1:x}", f"byte 0: the count is {MOST_PIECES + 1} (refused 3: count above {MOST_PIECES})"),
             ("01 03 02", "byte 3: y1 of piece 0 is due (refused 1: "),
             ("01 03 02 80", "byte 3: y1 of piece 0 is cut (refused 1: "),
             ("01 03 80 00", "byte 2: x1 of piece 0 has a group too many (refused 2: "),
@@ -198,7 +198,7 @@ class Listings(unittest.TestCase):
 
     def test_refused(self):
         said = told(listing_of_text, b"refused 3\n")
-        self.assertEqual(said, "line 1: the chart was refused with 3: count above 64")
+        self.assertEqual(said, f"line 1: the chart was refused with 3: count above {MOST_PIECES}")
 
     def test_damaged(self):
         sound = b"chart 3\ncomplete yes\npair 0 1 at 2 2\nsteps 5\n"
