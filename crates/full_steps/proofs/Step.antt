@@ -31,13 +31,13 @@ use Rattle.full_steps.specs.Steps.{State, start, crossings, queue, next,
 module _ (C : Chart) where
   open Chart C using (Point, n, min, max)
 
-  report-yes : (q : Pair) (l : List Pair) → unlisted C l q ≡ true → report C q l ≡ l ++ (q ∷ [])
-  unfolding report
-  report-yes q l e = rw e
-
   report-no : (q : Pair) (l : List Pair) → unlisted C l q ≡ false → report C q l ≡ l
   unfolding report
   report-no q l e = rw e
+
+  report-yes : (q : Pair) (l : List Pair) → unlisted C l q ≡ true → report C q l ≡ l ++ (q ∷ [])
+  unfolding report
+  report-yes q l e = rw e
 
   module _ (F : Ranked C) where
     open Keyed (F .keyed) using (key)
@@ -58,20 +58,6 @@ module _ (C : Chart) where
       beside-pieces : (q : Pair) → In q (adjacent (s .active)) → Pieces C q
       beside-pieces q m = (adjacent-two C (λ i. i < n) (s .active) (λ i h. let o = L .active-out i h in (o .0, o .0)) (L .once) q m) .0
 
-      queue-min : (i : ℕ) → i < n → bound key (s .last) ≤ key (min i) → In (min i) (queue C s)
-      unfolding queue
-      queue-min i h b = keep-in _ (Memᴰ·append-left _ (min-in C i h)) (beyond-yes C F (s .active) (s .last) L (min i) (min-occurs C i h) b)
-
-      queue-max : (i : ℕ) → i < n → bound key (s .last) ≤ key (max i) → In (max i) (queue C s)
-      unfolding queue
-      queue-max i h b = keep-in _ (Memᴰ·append-left _ (max-in C i h)) (beyond-yes C F (s .active) (s .last) L (max i) (max-occurs C i h) b)
-
-      queue-beside : (q : Pair) → In q (adjacent (s .active)) → kind C q ≡ crosses → bound key (s .last) ≤ key (at C q) → In (at C q) (queue C s)
-      unfolding queue crossings
-      queue-beside q m k b =
-          keep-in _ (Memᴰ·append-right (ends C (upto n)) (Memᴰ·map (at C) (keep-in (λ q. is-crossing (kind C q)) m (is-crossing-yes (kind C q) k))))
-          (beyond-yes C F (s .active) (s .last) L (at C q) (at-occurs C q (beside-pieces q m) k) b)
-
       queue-out : (p : Point) → In p (queue C s) → Occurs C p × (bound key (s .last) ≤ key p)
       unfolding queue crossings
       queue-out p m =
@@ -86,6 +72,20 @@ module _ (C : Chart) where
           (List·Memᴰ·append-cases (ends C (upto n)) (r .0))
           in
           (o, beyond-true C F (s .active) (s .last) L p o (r .1))
+
+      queue-min : (i : ℕ) → i < n → bound key (s .last) ≤ key (min i) → In (min i) (queue C s)
+      unfolding queue
+      queue-min i h b = keep-in _ (Memᴰ·append-left _ (min-in C i h)) (beyond-yes C F (s .active) (s .last) L (min i) (min-occurs C i h) b)
+
+      queue-max : (i : ℕ) → i < n → bound key (s .last) ≤ key (max i) → In (max i) (queue C s)
+      unfolding queue
+      queue-max i h b = keep-in _ (Memᴰ·append-left _ (max-in C i h)) (beyond-yes C F (s .active) (s .last) L (max i) (max-occurs C i h) b)
+
+      queue-beside : (q : Pair) → In q (adjacent (s .active)) → kind C q ≡ crosses → bound key (s .last) ≤ key (at C q) → In (at C q) (queue C s)
+      unfolding queue crossings
+      queue-beside q m k b =
+          keep-in _ (Memᴰ·append-right (ends C (upto n)) (Memᴰ·map (at C) (keep-in (λ q. is-crossing (kind C q)) m (is-crossing-yes (kind C q) k))))
+          (beyond-yes C F (s .active) (s .last) L (at C q) (at-occurs C q (beside-pieces q m) k) b)
 
       -- where the queue is empty, no point is left
       pub next-none : next C s ≡ none → (x : Point) → Occurs C x → key x < bound key (s .last)
@@ -124,6 +124,15 @@ module _ (C : Chart) where
         within = inside C F (s .active) (s .last) L p next-soonest
 
         -- the pieces at p are those that lie on it
+        pub on-part : (i : ℕ) → i < n → F .On i p → takes-part C (s .active) p i ≡ true
+        unfolding takes-part
+        on-part i h o = go (on-cases C F (s .active) (s .last) L p next-soonest i h o)
+          where
+            go : (starts C p i ≡ true) ⊎ ((finishes C p i ≡ true) ⊎ (within i ≡ true)) → takes-part C (s .active) p i ≡ true
+            go (inl e) = or-left (starts C p i || finishes C p i) (within i) (or-left (starts C p i) (finishes C p i) e)
+            go (inr (inl e)) = or-left (starts C p i || finishes C p i) (within i) (or-right (starts C p i) (finishes C p i) e)
+            go (inr (inr e)) = or-right (starts C p i || finishes C p i) (within i) e
+
         pub part-on : (i : ℕ) → i < n → takes-part C (s .active) p i ≡ true → F .On i p
         unfolding takes-part
         part-on i h e =
@@ -135,15 +144,6 @@ module _ (C : Chart) where
             (or-one (starts C p i) (finishes C p i) r))
             (λ (a : within i ≡ true). inside-on C F (s .active) (s .last) L p next-soonest i h a)
             (or-one (starts C p i || finishes C p i) (within i) e)
-
-        pub on-part : (i : ℕ) → i < n → F .On i p → takes-part C (s .active) p i ≡ true
-        unfolding takes-part
-        on-part i h o = go (on-cases C F (s .active) (s .last) L p next-soonest i h o)
-          where
-            go : (starts C p i ≡ true) ⊎ ((finishes C p i ≡ true) ⊎ (within i ≡ true)) → takes-part C (s .active) p i ≡ true
-            go (inl e) = or-left (starts C p i || finishes C p i) (within i) (or-left (starts C p i) (finishes C p i) e)
-            go (inr (inl e)) = or-left (starts C p i || finishes C p i) (within i) (or-right (starts C p i) (finishes C p i) e)
-            go (inr (inr e)) = or-right (starts C p i || finishes C p i) (within i) e
 
         pub step-listed : (step C s p) .listed ≡ s .listed ++ pairs-at C p
         unfolding step reported pieces
