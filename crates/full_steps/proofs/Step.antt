@@ -58,6 +58,20 @@ module _ (C : Chart) where
       beside-pieces : (q : Pair) → In q (adjacent (s .active)) → Pieces C q
       beside-pieces q m = (adjacent-two C (λ i. i < n) (s .active) (λ i h. let o = L .active-out i h in (o .0, o .0)) (L .once) q m) .0
 
+      queue-min : (i : ℕ) → i < n → bound key (s .last) ≤ key (min i) → In (min i) (queue C s)
+      unfolding queue
+      queue-min i h b = keep-in _ (Memᴰ·append-left _ (min-in C i h)) (beyond-yes C F (s .active) (s .last) L (min i) (min-occurs C i h) b)
+
+      queue-max : (i : ℕ) → i < n → bound key (s .last) ≤ key (max i) → In (max i) (queue C s)
+      unfolding queue
+      queue-max i h b = keep-in _ (Memᴰ·append-left _ (max-in C i h)) (beyond-yes C F (s .active) (s .last) L (max i) (max-occurs C i h) b)
+
+      queue-beside : (q : Pair) → In q (adjacent (s .active)) → kind C q ≡ crosses → bound key (s .last) ≤ key (at C q) → In (at C q) (queue C s)
+      unfolding queue crossings
+      queue-beside q m k b =
+          keep-in _ (Memᴰ·append-right (ends C (upto n)) (Memᴰ·map (at C) (keep-in (λ q. is-crossing (kind C q)) m (is-crossing-yes (kind C q) k))))
+          (beyond-yes C F (s .active) (s .last) L (at C q) (at-occurs C q (beside-pieces q m) k) b)
+
       queue-out : (p : Point) → In p (queue C s) → Occurs C p × (bound key (s .last) ≤ key p)
       unfolding queue crossings
       queue-out p m =
@@ -72,20 +86,6 @@ module _ (C : Chart) where
           (List·Memᴰ·append-cases (ends C (upto n)) (r .0))
           in
           (o, beyond-true C F (s .active) (s .last) L p o (r .1))
-
-      queue-min : (i : ℕ) → i < n → bound key (s .last) ≤ key (min i) → In (min i) (queue C s)
-      unfolding queue
-      queue-min i h b = keep-in _ (Memᴰ·append-left _ (min-in C i h)) (beyond-yes C F (s .active) (s .last) L (min i) (min-occurs C i h) b)
-
-      queue-max : (i : ℕ) → i < n → bound key (s .last) ≤ key (max i) → In (max i) (queue C s)
-      unfolding queue
-      queue-max i h b = keep-in _ (Memᴰ·append-left _ (max-in C i h)) (beyond-yes C F (s .active) (s .last) L (max i) (max-occurs C i h) b)
-
-      queue-beside : (q : Pair) → In q (adjacent (s .active)) → kind C q ≡ crosses → bound key (s .last) ≤ key (at C q) → In (at C q) (queue C s)
-      unfolding queue crossings
-      queue-beside q m k b =
-          keep-in _ (Memᴰ·append-right (ends C (upto n)) (Memᴰ·map (at C) (keep-in (λ q. is-crossing (kind C q)) m (is-crossing-yes (kind C q) k))))
-          (beyond-yes C F (s .active) (s .last) L (at C q) (at-occurs C q (beside-pieces q m) k) b)
 
       -- where the queue is empty, no point is left
       pub next-none : next C s ≡ none → (x : Point) → Occurs C x → key x < bound key (s .last)
