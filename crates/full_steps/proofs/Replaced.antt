@@ -118,7 +118,7 @@ module _ (C : Chart) (S : Sides C) (G : Geometry C) (A : InPlaceFacts C S G) (s 
 
   pub renewed-through : (i : ℕ) → In i (renewed C S (s .active) p) → Through i
   unfolding renewed
-  renewed-through i m = through i (sort-out rises (goers ++ comers) m)
+  renewed-through i m = through i (sort-out _ (goers ++ comers) m)
 
   rises-is : (i j : ℕ) → Through i → Through j → before p i j ≡ rises i j
   rises-is i j a b = A .on-rises p op i j (act-under i (a .0)) (act-under j (b .0)) (ranked-on C G (a .1)) (ranked-on C G (b .1))

@@ -31,13 +31,13 @@ use Rattle.full_steps.specs.Steps.{State, start, crossings, queue, next,
 module _ (C : Chart) where
   open Chart C using (Point, n, min, max)
 
-  report-yes : (q : Pair) (l : List Pair) → unlisted C l q ≡ true → report C q l ≡ l ++ (q ∷ [])
-  unfolding report
-  report-yes q l e = rw e
-
   report-no : (q : Pair) (l : List Pair) → unlisted C l q ≡ false → report C q l ≡ l
   unfolding report
   report-no q l e = rw e
+
+  report-yes : (q : Pair) (l : List Pair) → unlisted C l q ≡ true → report C q l ≡ l ++ (q ∷ [])
+  unfolding report
+  report-yes q l e = rw e
 
   module _ (F : Ranked C) where
     open Keyed (F .keyed) using (key)
@@ -124,6 +124,15 @@ module _ (C : Chart) where
         within = inside C F (s .active) (s .last) L p next-soonest
 
         -- the pieces at p are those that lie on it
+        pub on-part : (i : ℕ) → i < n → F .On i p → takes-part C (s .active) p i ≡ true
+        unfolding takes-part
+        on-part i h o = go (on-cases C F (s .active) (s .last) L p next-soonest i h o)
+          where
+            go : (starts C p i ≡ true) ⊎ ((finishes C p i ≡ true) ⊎ (within i ≡ true)) → takes-part C (s .active) p i ≡ true
+            go (inl e) = or-left (starts C p i || finishes C p i) (within i) (or-left (starts C p i) (finishes C p i) e)
+            go (inr (inl e)) = or-left (starts C p i || finishes C p i) (within i) (or-right (starts C p i) (finishes C p i) e)
+            go (inr (inr e)) = or-right (starts C p i || finishes C p i) (within i) e
+
         pub part-on : (i : ℕ) → i < n → takes-part C (s .active) p i ≡ true → F .On i p
         unfolding takes-part
         part-on i h e =
@@ -135,15 +144,6 @@ module _ (C : Chart) where
             (or-one (starts C p i) (finishes C p i) r))
             (λ (a : within i ≡ true). inside-on C F (s .active) (s .last) L p next-soonest i h a)
             (or-one (starts C p i || finishes C p i) (within i) e)
-
-        pub on-part : (i : ℕ) → i < n → F .On i p → takes-part C (s .active) p i ≡ true
-        unfolding takes-part
-        on-part i h o = go (on-cases C F (s .active) (s .last) L p next-soonest i h o)
-          where
-            go : (starts C p i ≡ true) ⊎ ((finishes C p i ≡ true) ⊎ (within i ≡ true)) → takes-part C (s .active) p i ≡ true
-            go (inl e) = or-left (starts C p i || finishes C p i) (within i) (or-left (starts C p i) (finishes C p i) e)
-            go (inr (inl e)) = or-left (starts C p i || finishes C p i) (within i) (or-right (starts C p i) (finishes C p i) e)
-            go (inr (inr e)) = or-right (starts C p i || finishes C p i) (within i) e
 
         pub step-listed : (step C s p) .listed ≡ s .listed ++ pairs-at C p
         unfolding step reported pieces
