@@ -1,27 +1,26 @@
 -- The lanes after a step: outside the block they stay, since none of its crossings is at the next point or before it;
 -- inside the renewed block there is none, since its pieces cross at the point if anywhere.
-use mathlib.Core.Path.{_≡_, refl, sym, ap, _∙_, subst}
-use mathlib.Core.Logic.{_⊎_, ⊎-elim, _≢_, by-cases}
-use mathlib.Core.Bool.{Bool, true, false, cond, _&&_}
+use mathlib.Core.Path.{_≡_, sym, ap, _∙_, subst}
+use mathlib.Core.Logic.{⊎-elim, _≢_}
+use mathlib.Core.Bool.{true, false}
 use mathlib.Core.Option.{Option, none, some}
-use mathlib.Core.List.{List, [], _∷_, _++_, map, map-append, append-assoc}
+use mathlib.Core.List.{List, _++_, map, map-append, append-assoc}
 use mathlib.Core.List.{List·Memᴰ as In}
-use Prim.Native.Nat.{ℕ, _+_, _-_, _≤_, _<_}
+use Prim.Native.Nat.{ℕ, _+_, _-_, _<_}
 use native.Mathlib.Omega.{arith}
-use native.Mathlib.Decide.{ℕ-discrete}
 use lib.ListN.{length, take, drop, length-append}
-use Rattle.fractions.specs.declared.Order.the-variants.{Less, Equal, Greater}
+use Rattle.fractions.specs.declared.Order.the-variants.{Equal}
 use Rattle.sweep.specs.Lists.{Pair, adjacent, Pairwise}
 use Rattle.sweep.specs.Chart.{crosses, Chart, kind, at}
 use Rattle.sweep.specs.Queue.{beyond}
 use Rattle.sweep.specs.Sought.{is-crossing}
 use Rattle.sweep.specs.Geometry.{Occurs, Geometry}
 use Rattle.sweep.specs.Demand.{Pieces}
-use Rattle.sweep.proofs.Tests.{ask, clash, same-test}
-use Rattle.sweep.proofs.Lists.{pairwise-keep, pairwise-map, pairwise-left, pairwise-right}
+use Rattle.sweep.proofs.Tests.{ask, same-test}
+use Rattle.sweep.proofs.Lists.{pairwise-left, pairwise-right}
 use Rattle.sweep.proofs.Occurring.{adjacent-two, is-crossing-true, at-occurs}
-use Rattle.sweep.proofs.Ranked.{Act, Ranked, ranked, less-true, less-yes, less-no, Keyed}
-use Rattle.sweep.proofs.Between.{bound, bound-some, Lined, Soonest}
+use Rattle.sweep.proofs.Ranked.{Ranked, ranked, less-true, less-yes, less-no, Keyed}
+use Rattle.sweep.proofs.Between.{Soonest}
 use Rattle.sweep.proofs.Soonest.{beyond-yes, beyond-true}
 use Rattle.full_steps.specs.Steps.{State, next, ranged}
 use Rattle.full_steps.specs.InPlace.{Sides, InPlaceFacts, below, block, above, renewed, replaced, lane, lanes, joint, relaned}

@@ -1,12 +1,12 @@
 -- The block replaced in place is the active list that the step sorts: the same members, in order, and there is but one
 -- such list.
-use mathlib.Core.Path.{_≡_, refl, sym, ap, _∙_}
+use mathlib.Core.Path.{_≡_, sym, _∙_}
 use mathlib.Core.Logic.{⊎-elim, _≢_, _↔_}
-use mathlib.Core.Bool.{Bool, true, false, not}
+use mathlib.Core.Bool.{true, false, not}
 use mathlib.Core.Option.{some}
 use mathlib.Core.List.{List, _++_, Memᴰ·append-left, Memᴰ·append-right, List·Memᴰ·append-cases}
 use mathlib.Core.List.{List·Memᴰ as In}
-use Prim.Native.Nat.{ℕ, _≤_, _<_}
+use Prim.Native.Nat.{ℕ}
 use native.Mathlib.Omega.{arith}
 use Rattle.fractions.specs.declared.Order.the-variants.{Less, Equal, Greater}
 use Rattle.sweep.specs.Lists.{upto, keep, sort, Pairwise}
@@ -20,7 +20,7 @@ use Rattle.sweep.proofs.Sorting.{sort-in, sort-out, sort-once, sort-sorted, sor
 use Rattle.sweep.proofs.Pairs.{upto-out, upto-once}
 use Rattle.sweep.proofs.Occurring.{min-occurs, max-occurs}
 use Rattle.sweep.proofs.Ranked.{Act, Ranked, ranked, ranked-on, on-ranked, less-yes, less-no, Keyed}
-use Rattle.sweep.proofs.Between.{bound, Lined, Soonest}
+use Rattle.sweep.proofs.Between.{Lined, Soonest}
 use Rattle.sweep.proofs.Soonest.{no-max, starts-on, finishes-on, goes-on, starts-act, starts-apart}
 use Rattle.sweep.proofs.Lining.{sorted-line}
 use Rattle.full_steps.specs.Steps.{State, next, ranged}

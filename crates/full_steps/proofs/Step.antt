@@ -1,13 +1,12 @@
 -- One step of the new mode takes the least point that is left, lists the pairs that meet first there, and keeps what
 -- holds between steps: crate sweep's laws for any mode, applied to this queue, these pieces and this active list.
-use mathlib.Core.Path.{_≡_, refl, sym, ap, subst}
+use mathlib.Core.Path.{_≡_, subst}
 use mathlib.Core.Logic.{_⊎_, inl, inr, ⊎-elim, _≢_}
 use mathlib.Core.Bool.{Bool, true, false, _||_, not}
 use mathlib.Core.Option.{none, some}
 use mathlib.Core.List.{List, [], _∷_, _++_, map, Memᴰ·append-left, Memᴰ·append-right, List·Memᴰ·append-cases, Memᴰ·map, Memᴰ·of-map}
 use mathlib.Core.List.{List·Memᴰ as In}
 use Prim.Native.Nat.{ℕ, _≤_, _<_}
-use native.Mathlib.Omega.{arith}
 use Rattle.sweep.specs.Lists.{Pair, upto, keep, adjacent, Pairwise}
 use Rattle.sweep.specs.Chart.{crosses, Chart, kind, at}
 use Rattle.sweep.specs.Queue.{ends, beyond}
