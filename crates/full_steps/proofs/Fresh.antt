@@ -1,7 +1,7 @@
 -- Listing without marks: the pieces at the next point are the block and the starters, and of two of them a crossing is new,
 -- and an overlap where one of them starts.
 use mathlib.Core.Path.{_≡_, refl, sym, ap, _∙_}
-use mathlib.Core.Logic.{_⊎_, inl, inr, ⊎-elim, _≢_, by-cases}
+use mathlib.Core.Logic.{_⊎_, ⊎-elim, _≢_, by-cases}
 use mathlib.Core.Bool.{Bool, true, _||_}
 use mathlib.Core.Option.{some}
 use mathlib.Core.List.{List, _++_}

@@ -8,7 +8,7 @@ use Prim.Native.Nat.{ℕ, zero, suc}
 use Rattle.sweep.specs.Lists.{Pair, upto, keep, adjacent}
 use Rattle.sweep.specs.Chart.{Chart, kind, at}
 use Rattle.sweep.specs.Queue.{ends, beyond, least}
-use Rattle.sweep.specs.Run.{Answer, is-none}
+use Rattle.sweep.specs.Run.{is-none}
 use Rattle.sweep.specs.Sought.{is-crossing}
 use Rattle.sweep.specs.Geometry.{Geometry}
 use Rattle.sweep.proofs.Tests.{ask, clash}
@@ -16,7 +16,7 @@ use Rattle.sweep.proofs.Lists.{keep-append}
 use Rattle.sweep.proofs.Ranked.{ranked}
 use Rattle.full_steps.specs.Steps.{State, start, crossings, queue, next, step, move-to, move, run, answer-of, answer}
 use Rattle.full_steps.specs.InPlace.{somes, Sides, InPlaceFacts, lane, lanes, Held, empty, held-next, held-step, held-to, held-run, held-answer}
-use Rattle.full_steps.specs.Demand.{InPlaceAt, StepsInPlace, held-of, Holds, InPlace}
+use Rattle.full_steps.specs.Demand.{StepsInPlace, held-of, InPlace}
 use Rattle.full_steps.proofs.Promises.{run-inv}
 use Rattle.full_steps.proofs.Sides.{parts}
 use Rattle.full_steps.proofs.Replaced.{same-active}

@@ -1,16 +1,15 @@
 -- The lanes after a step: outside the block they stay, since none of its crossings is at the next point or before it;
 -- inside the renewed block there is none, since its pieces cross at the point if anywhere.
-use mathlib.Core.Path.{_≡_, refl, sym, ap, _∙_, subst}
-use mathlib.Core.Logic.{_⊎_, ⊎-elim, _≢_, by-cases}
+use mathlib.Core.Path.{_≡_, sym, ap, _∙_, subst}
+use mathlib.Core.Logic.{⊎-elim, _≢_}
 use mathlib.Core.Bool.{Bool, true, false, cond, _&&_}
 use mathlib.Core.Option.{Option, none, some}
-use mathlib.Core.List.{List, [], _∷_, _++_, map, map-append, append-assoc}
+use mathlib.Core.List.{List, _++_, map, map-append, append-assoc}
 use mathlib.Core.List.{List·Memᴰ as In}
-use Prim.Native.Nat.{ℕ, _+_, _-_, _≤_, _<_}
+use Prim.Native.Nat.{ℕ, _+_, _-_, _<_}
 use native.Mathlib.Omega.{arith}
-use native.Mathlib.Decide.{ℕ-discrete}
 use lib.ListN.{length, take, drop, length-append}
-use Rattle.fractions.specs.declared.Order.the-variants.{Less, Equal, Greater}
+use Rattle.fractions.specs.declared.Order.the-variants.{Equal}
 use Rattle.sweep.specs.Lists.{Pair, adjacent, Pairwise}
 use Rattle.sweep.specs.Chart.{crosses, Chart, kind, at}
 use Rattle.sweep.specs.Queue.{beyond}
@@ -18,10 +17,10 @@ use Rattle.sweep.specs.Sought.{is-crossing}
 use Rattle.sweep.specs.Geometry.{Occurs, Geometry}
 use Rattle.sweep.specs.Demand.{Pieces}
 use Rattle.sweep.proofs.Tests.{ask, clash, same-test}
-use Rattle.sweep.proofs.Lists.{pairwise-keep, pairwise-map, pairwise-left, pairwise-right}
+use Rattle.sweep.proofs.Lists.{pairwise-left, pairwise-right}
 use Rattle.sweep.proofs.Occurring.{adjacent-two, is-crossing-true, at-occurs}
-use Rattle.sweep.proofs.Ranked.{Act, Ranked, ranked, less-true, less-yes, less-no, Keyed}
-use Rattle.sweep.proofs.Between.{bound, bound-some, Lined, Soonest}
+use Rattle.sweep.proofs.Ranked.{Ranked, ranked, less-true, less-yes, less-no, Keyed}
+use Rattle.sweep.proofs.Between.{Soonest}
 use Rattle.sweep.proofs.Soonest.{beyond-yes, beyond-true}
 use Rattle.full_steps.specs.Steps.{State, next, ranged}
 use Rattle.full_steps.specs.InPlace.{Sides, InPlaceFacts, below, block, above, renewed, replaced, lane, lanes, joint, relaned}
@@ -43,6 +42,14 @@ module _ (C : Chart) where
       (λ (e : is-crossing (kind C q) ≡ true). rw (e, f e))
       (λ (e : is-crossing (kind C q) ≡ false). rw e)
       (ask (is-crossing (kind C q)))
+
+  lane-at : (o : Option (C .Point)) (q : Pair) (p : C .Point) → lane C o q ≡ some p → at C q ≡ p
+  unfolding lane
+  lane-at o q p e = go (is-crossing (kind C q) && beyond C o (at C q)) e
+    where
+      go : (b : Bool) → cond b (some (at C q)) none ≡ some p → at C q ≡ p
+      go true d = cc
+      go false d = let z : _≡_ {A = ℕ} 0 1 = cc in absurd (omega arith)
 
   module _ (S : Sides C) (G : Geometry C) (A : InPlaceFacts C S G) (s : State C) (I : Inv C (ranked C G) s) (p : C .Point) (hp : next C s ≡ some p) where
     open Chart C using (Point, n, less)
@@ -85,6 +92,18 @@ module _ (C : Chart) where
         (λ e.
         let k = is-crossing-true (kind C q) e in
         less-no C (R .keyed) p (at C q) op (at-occurs C q v k) (omega (arith, ap key (R .crossing-only (q .0) (q .1) p (omega arith) (v .1) (omega arith) op k a b))))
+
+    -- a lane that is open at p is one of two pieces through it
+    pub lane-through : (q : Pair) → In q (adjacent (s .active)) → lane C (s .last) q ≡ some p → (aside p (q .0) ≡ Equal) × (aside p (q .1) ≡ Equal)
+    lane-through q m e =
+        let t = adjacent-two C (λ i. In i (s .active)) (s .active) (λ i h. ((I .lined .active-out i h) .0, h)) (I .lined .once) q m in
+        ⊎-elim
+        (λ (k : is-crossing (kind C q) ≡ true).
+        let x = is-crossing-true (kind C q) k in
+        let on = subst (λ (z : Point). R .On (q .0) z × R .On (q .1) z) (lane-at (s .last) q p e) (R .crossing-on (q .0) (q .1) (omega (arith, t .0)) (t .0 .1) (omega (arith, t .0)) x) in
+        (on-active C S G A s I p hp (q .0) (t .1 .0) (on .0), on-active C S G A s I p hp (q .1) (t .1 .1) (on .1)))
+        (λ (k : is-crossing (kind C q) ≡ false). let z : _≡_ {A = ℕ} 0 1 = cc (lane-shut (s .last) q (λ h. clash h k)) in absurd (omega arith))
+        (ask (is-crossing (kind C q)))
 
     abbrev b : List ℕ
     b = below C S (s .active) p
