@@ -23,9 +23,9 @@ random_chart, sought = tries.random_chart, tries.sought
 EDITS = Path(__file__).resolve().parents[2] / "crates/full_steps/must-fail"
 NAMES = (
     "active_left_out block_by_falling_slope closing_pair_forgotten complete_by_uprights counts_twice crossings_not_queued "
-    "done_points_queued finished_pieces_in_the_block finishing_pieces_stay fresh_overlap_again idles_after_one_step "
+    "finished_pieces_in_the_block finishing_pieces_stay fresh_overlap_again idles_after_one_step "
     "lanes_above_slip lists_in_front lists_without_test lower_outer_pair_stays outer_pair_not_examined "
-    "overlap_listed_again starters_left_out"
+    "overlap_listed_again stands_still starters_left_out"
 ).split()
 
 
@@ -66,7 +66,7 @@ class Full:
         ends = [e for s in self.chart.pieces for e in (s.min, s.max)]
         tests = [self.chart.test(*q) for q in adjacent([] if self.edit == "crossings_not_queued" else self.active)]
         points = ends + [c for kind, c in tests if kind == "crossing"]
-        return [p for p in points if self.last is None or self.edit == "done_points_queued" or self.last < p]
+        return [p for p in points if self.last is None or self.last < p]
 
     def report(self, here):
         for pair in combinations(here, 2):
@@ -82,7 +82,7 @@ class Full:
         self.report(sorted({*starts, *finishes, *inside}))
         leave, enter = starts if edit == "finishing_pieces_stay" else finishes, finishes if edit == "starters_left_out" else starts
         self.active = sorted([i for i in self.active if i not in leave] + enter, key=lambda i: chart.rank(p, i))
-        self.last, self.steps = p, self.steps + (2 if edit == "counts_twice" else 1)
+        self.last, self.steps = None if edit == "stands_still" else p, self.steps + (2 if edit == "counts_twice" else 1)
 
     def complete(self):
         return self.edit != "complete_by_uprights" or not any(s.upright for s in self.chart.pieces)
@@ -140,7 +140,7 @@ def try_full(chart, edit=None):
             "complete": run.complete(),
             "in place": place.active == run.active,
             "listing without marks": place.listed == run.listed,
-            "lanes": place.lanes == (lanes(chart, run.active, run.last) if steps else []),
+            "lanes": place.lanes == (lanes(chart, run.active, done[-1]) if steps else []),
         }
         failed = [name for name, holds in told.items() if not holds]
         if failed or not queue:

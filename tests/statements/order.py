@@ -6,7 +6,7 @@ edit of the order, the smallest chart found on which a fact fails with it. Exits
 an edit fails no chart or is not known here.
 The definitions are full_order's specs/Finer read once more, over whole numbers; points l before p are any two that occur.
 The edits are made by hand below: that they are those of the crate is held to their names alone. `one_mode_with_uprights`
-is about the two modes: the scope's upright gap is its chart."""
+is about the two modes: the upright gap of docs/CHART.md is its chart."""
 import random
 import sys
 from collections import Counter

@@ -42,6 +42,10 @@ EndsDecide =
     (C : Chart) → Geometry C → (m : ℕ)
     → (next C (run C m) ≡ none) ↔ (keep (beyond C ((run C m) .last)) (ends C (upto (C .n))) ≡ [])
 
+-- a state, with its lanes
+abbrev pub held-of : (C : Chart) → State C → Held C
+held-of C s = record { active = s .active; lanes = lanes C (s .last) (s .active); listed = s .listed; last = s .last; steps = s .steps }
+
 module _ (C : Chart) (S : Sides C) where
   -- after m steps, at the next point p: the active list is what lies below p, goes through it and lies above it, in this
   -- order; and the block replaced, the fresh pairs and the lanes are what the step leaves
@@ -49,19 +53,15 @@ module _ (C : Chart) (S : Sides C) where
     pub parts : (run C m) .active ≡ below C S ((run C m) .active) p ++ (block C S ((run C m) .active) p ++ above C S ((run C m) .active) p)
     pub same-active : ranged C ((run C m) .active) p ≡ replaced C S ((run C m) .active) p
     pub same-listed : reported C (run C m) p ≡ (run C m) .listed ++ fresh-pairs C S ((run C m) .active) p
-    pub same-lanes : lanes C S (some p) (ranged C ((run C m) .active) p) ≡ relaned C S (lanes C S ((run C m) .last) ((run C m) .active)) ((run C m) .active) p
+    pub same-lanes : lanes C (some p) (ranged C ((run C m) .active) p) ≡ relaned C S (lanes C ((run C m) .last) ((run C m) .active)) ((run C m) .active) p
 
   abbrev pub StepsInPlace : Type 0
   StepsInPlace = (m : ℕ) (p : C .Point) → next C (run C m) ≡ some p → InPlaceAt m p
 
-  -- a state, with its lanes
-  abbrev pub held-of : State C → Held C S
-  held-of s = record { active = s .active; lanes = lanes C S (s .last) (s .active); listed = s .listed; last = s .last; steps = s .steps }
-
   -- so a run in place holds what the run does, and answers the same
   pub record Holds (m : ℕ) : Type 0 where
-    pub same-state : held-run C S m ≡ held-of (run C m)
-    pub same-next : held-next C S (held-run C S m) ≡ next C (run C m)
+    pub same-state : held-run C S m ≡ held-of C (run C m)
+    pub same-next : held-next C (held-run C S m) ≡ next C (run C m)
     pub same-answer : held-answer C S m ≡ answer C m
 
 abbrev pub InPlace : Type 1
