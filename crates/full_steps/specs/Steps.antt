@@ -31,29 +31,29 @@ module _ (C : Chart) where
   unfoldable pub crossings : List ℕ → List Point
   crossings active = map (at C) (keep (λ q. is-crossing (kind C q)) (adjacent active))
 
-  -- "The queue holds the ends beyond the last point, and the crossings beyond it of adjacent active pieces."
+  -- the queue holds the ends beyond the last point, and the crossings beyond it of adjacent active pieces
   unfoldable pub queue : State → List Point
   queue s = keep (beyond C (s .last)) (ends C (upto n) ++ crossings (s .active))
 
-  -- "A step takes the least point p of it." None: the queue is empty.
+  -- a step takes the least point p of it; none: the queue is empty
   unfoldable pub next : State → Option Point
   next s = least C (queue s)
 
-  -- "The pieces at p are those that start or finish there, and the active ones that contain p, in number order."
+  -- the pieces at p are those that start or finish there, and the active ones that contain p, in number order
   unfoldable pub takes-part : List ℕ → Point → ℕ → Bool
   takes-part active p i = starts C p i || finishes C p i || (any (eqb i) active && contains i p)
 
   unfoldable pub pieces : List ℕ → Point → List ℕ
   pieces active p = keep (takes-part active p) (upto n)
 
-  -- "Each pair of them, in order, that is not yet listed and passes the test is listed."
+  -- each pair of them, in order, that is not yet listed and passes the test is listed
   unfoldable pub report : Pair → List Pair → List Pair
   report q listed = cond (not (among q listed) && meets (kind C q)) (listed ++ (q ∷ [])) listed
 
   unfoldable pub reported : State → Point → List Pair
   reported s p = each report (pairs (pieces (s .active) p)) (s .listed)
 
-  -- "Finishing pieces leave the active list, starting ones enter it, and it is sorted as the pieces stand just after p."
+  -- finishing pieces leave the active list, starting ones enter it, and it is sorted as the pieces stand just after p
   unfoldable pub ranged : List ℕ → Point → List ℕ
   ranged active p = sort (before p) (keep (λ i. not (finishes C p i)) active ++ keep (starts C p) (upto n))
 
