@@ -22,7 +22,8 @@ use Rattle.ported_arrays.specs.Event.{Sheet, flag, halves, pieces, are-min, fre
 use Rattle.ported_arrays.specs.Event.{here as gathered}
 use Rattle.ported_queue.specs.Passing.{Passing}
 use Rattle.ported_active.specs.Roles.{staysBy, entersBy, containsIn}
-use Rattle.ported_step.specs.Views.{ledger, sheet, rangedOf}
+use Rattle.ported_ledger.specs.Views.{ledger}
+use Rattle.ported_step.specs.Views.{sheet, rangedOf}
 
 front-in : (f : ℕ → Bool) (l : List ℕ) {x : ℕ} → In x (front f l) → In x l
 unfolding front

@@ -1,8 +1,4 @@
 // One visit of the sweep, after the Rust's bentley_ottmann.rs: a step at the least point that is left.
-mod examine;
-mod ledger;
-mod report;
-
 ghost use mathlib.Core.Path.{_≡_};
 ghost use Prim.Native.Nat.{ℕ, _*_, _≤_, suc};
 ghost use lib.ListN.{length, take, drop};
@@ -10,7 +6,8 @@ ghost use Rattle.ported_pieces.specs.Table.{chartIn};
 ghost use Rattle.sweep.specs.Lists.{adjacent, keep};
 ghost use Rattle.sweep.specs.Step.{each};
 ghost use Rattle.ported_arrays.specs.Ledger.{examine};
-ghost use Rattle.ported_step.specs.Views.{ledger, rangedOf, sheet};
+ghost use Rattle.ported_ledger.specs.Views.{ledger};
+ghost use Rattle.ported_step.specs.Views.{rangedOf, sheet};
 ghost use lib.Seq.{slice};
 ghost use mathlib.Core.List.{_++_};
 ghost use Rattle.charts.specs.Chart.{most};
@@ -19,9 +16,9 @@ ghost use Rattle.ported_active.specs.Joined.{Joined, AllBelow};
 ghost use Rattle.ported_active.specs.Roles.{staysBy, entersBy, containsIn};
 ghost use mathlib.Core.Option.{Option, some};
 use charts::MOST;
-use examine::examine_all;
 use fractions::Point;
-use report::report_all;
+use ported_examine::examine_all;
+use ported_report::report_all;
 
 // The pieces at p, in number order: those of the ends and of the crossings that were passed, and the active ones that
 // contain p.
