@@ -34,7 +34,7 @@ use Rattle.ported_arrays.proofs.Flat.{flat-length}
 use Rattle.ported_arrays.proofs.Simulation.{run-agrees}
 use Rattle.ported_pieces.specs.Table.{pieceIn, chartIn}
 use Rattle.ported_pieces.proofs.Ordering.{ordered}
-use Rattle.ported_active.specs.Joined.{AllBelow}
+use Rattle.ported_gather.specs.Joined.{AllBelow}
 use Rattle.ported_queue.specs.declared.Next.{Next}
 use Rattle.ported_queue.specs.declared.Next.the-variants.{Nothing}
 use Rattle.ported_queue.specs.declared.Next.the-variants.{At as NextAt}

@@ -1,10 +1,6 @@
 // The pieces of a chart as the sweep asks for them, by number, after the Rust's Segment. They stand in one array, five
 // numbers a piece: min's x and y, max's x and y, and the marks of both. Past its end every number is 0.
 // End 2i is the min of piece i, end 2i + 1 its max; pair MOST * i + j is that of pieces i and j.
-mod heights;
-mod table;
-
-pub use table::fill;
 ghost use mathlib.Core.Path.{_≡_};
 ghost use Prim.Native.Nat.{ℕ, _+_, _*_, _/_, _%_};
 ghost use Rattle.fractions.specs.Point.{pointOrder};
@@ -191,9 +187,9 @@ pub fn before(table: &[i16], p: Point, i: u8, j: u8) -> bool
 {
     let a = piece(table, i as u16);
     let b = piece(table, j as u16);
-    match heights::height_order(p, a, b) {
+    match ported_heights::height_order(p, a, b) {
         Order::Less => true,
-        Order::Equal => match heights::slope_order(a, b) {
+        Order::Equal => match ported_heights::slope_order(a, b) {
             Order::Less => true,
             Order::Equal => i < j,
             Order::Greater => false,
