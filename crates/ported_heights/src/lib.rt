@@ -10,9 +10,9 @@ use fractions::Point;
 use fractions::compare_ratios;
 use line_segment::EndPoint;
 use line_segment::LineSegment;
-use line_segment::cramer;
-use line_segment::rise;
-use line_segment::run;
+use segment_crossing::cramer;
+use segment_crossing::rise;
+use segment_crossing::run;
 
 // The less steep first.
 pub fn slope_order(a: LineSegment, b: LineSegment) -> Order
