@@ -62,8 +62,9 @@ class Text(unittest.TestCase):
         self.assertEqual(chart_of_text(b"").pieces, [])
 
     def test_count(self):
-        self.assertEqual(len(chart_of_text(b"3 0 0 1 1\n" * 64).pieces), 64)
-        self.assertIn("line 66: piece 64 is one too many", told(chart_of_text, b"#\n" + b"3 0 0 1 1\n" * 65))
+        self.assertEqual(len(chart_of_text(b"3 0 0 1 1\n" * MOST_PIECES).pieces), MOST_PIECES)
+        said = told(chart_of_text, b"#\n" + b"3 0 0 1 1\n" * (MOST_PIECES + 1))
+        self.assertIn(f"line {MOST_PIECES + 2}: piece {MOST_PIECES} is one too many", said)
 
     def test_coordinates(self):
         for at, meaning in enumerate(("x1", "y1", "x2", "y2"), 1):
@@ -115,7 +116,7 @@ class File(unittest.TestCase):
 
     def test_longest(self):
         chart = Chart([Piece(3, LIMIT, LIMIT, -LIMIT, LIMIT)] * MOST_PIECES)
-        self.assertEqual(len(file_of_chart(chart)), 833)
+        self.assertEqual(len(file_of_chart(chart)), 1 + 13 * MOST_PIECES)
 
     def test_round_trips(self):
         for seed in range(300):
@@ -151,12 +152,12 @@ class File(unittest.TestCase):
     def test_what_is_told(self):
         for data, said in (
             ("", "byte 0: the count is due (refused 1: "),
-            ("41", "byte 0: the count is 65 (refused 3: the count is above 64)"),
+            ("41", "byte 0: the count is 65 (refused 3: count above 64)"),
             ("01 03 02", "byte 3: y1 of piece 0 is due (refused 1: "),
             ("01 03 02 80", "byte 3: y1 of piece 0 is cut (refused 1: "),
             ("01 03 80 00", "byte 2: x1 of piece 0 has a group too many (refused 2: "),
             ("01 03 80 80 80", "byte 2: x1 of piece 0 does not end (refused 2: "),
-            ("01 04", "byte 1: the kind of piece 0 is 4 (refused 4: a kind is outside 0 to 3)"),
+            ("01 04", "byte 1: the kind of piece 0 is 4 (refused 4: kind outside 0 to 3)"),
             ("01 03 80 80 04", "byte 2: x1 of piece 0 is 32768 (refused 5: "),
             ("01 03 FF FF 03", "byte 2: x1 of piece 0 is -32768 (refused 5: "),
             ("01 03 02 04 02 04", "byte 1: both ends of piece 0 are 1 2 (refused 6: "),
@@ -197,7 +198,7 @@ class Listings(unittest.TestCase):
 
     def test_refused(self):
         said = told(listing_of_text, b"refused 3\n")
-        self.assertEqual(said, "line 1: the chart was refused with 3: the count is above 64")
+        self.assertEqual(said, "line 1: the chart was refused with 3: count above 64")
 
     def test_damaged(self):
         sound = b"chart 3\ncomplete yes\npair 0 1 at 2 2\nsteps 5\n"
