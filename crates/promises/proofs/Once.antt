@@ -11,17 +11,17 @@ use lib.ListN.{length, take, drop, length-take, length-drop}
 use Rattle.charts.specs.Outcome.{OneResult, OneOutcome}
 use Rattle.ported_arrays.specs.Event.{Sheet}
 use Rattle.ported_pieces.specs.Table.{chartIn}
-use Rattle.ported_queue.specs.Passing.{Passing}
-use Rattle.ported_active.specs.Joined.{Joined}
+use Rattle.ported_passing.specs.Passing.{Passing}
+use Rattle.ported_gather.specs.Joined.{Joined}
 use Rattle.integers.proofs.size.Reads as size
 use Rattle.ported_queue.proofs.order_ends.Reads as order-ends
 use Rattle.ported_queue.proofs.wait.Reads as wait
 use Rattle.ported_queue.proofs.next_point.Reads as next-point
-use Rattle.ported_queue.proofs.pass_ends.Reads as pass-ends
-use Rattle.ported_queue.proofs.pass_crossings.Reads as pass-crossings
-use Rattle.ported_active.proofs.join_ends.Reads as join-ends
-use Rattle.ported_active.proofs.join_crossings.Reads as join-crossings
-use Rattle.ported_active.proofs.join_active.Reads as join-active
+use Rattle.ported_passing.proofs.pass_ends.Reads as pass-ends
+use Rattle.ported_passing.proofs.pass_crossings.Reads as pass-crossings
+use Rattle.ported_gather.proofs.join_ends.Reads as join-ends
+use Rattle.ported_gather.proofs.join_crossings.Reads as join-crossings
+use Rattle.ported_gather.proofs.join_active.Reads as join-active
 use Rattle.ported_active.proofs.leave.Reads as leave
 use Rattle.ported_active.proofs.enter.Reads as enter
 use Rattle.ported_active.proofs.resort.Reads as resort
