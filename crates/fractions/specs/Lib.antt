@@ -1,7 +1,6 @@
 -- What the contracts of fractions cite; Demand has what is promised of it.
 pub mod Order
 pub mod Fraction
-pub mod Limbs
 pub mod Divisor
 pub mod Point
 pub mod Demand
