@@ -12,6 +12,7 @@ pub mod Euclid
 pub mod LowestTerms
 pub mod Quotient
 pub mod WholeParts
+pub mod Turns
 pub mod Crossed
 pub mod Promises
 mod Examples

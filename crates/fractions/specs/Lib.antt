@@ -3,4 +3,6 @@ pub mod Order
 pub mod Fraction
 pub mod Divisor
 pub mod Point
+pub mod Turns
+pub mod Worked
 pub mod Demand

@@ -1,11 +1,13 @@
 -- `fractions::parts::compare_above` meets its contract: the lesser whole part is the lesser, and where they are the same, what is left decides, turned over.
-use Prim.Native.Nat.{ℕ, _+_, _<_}
+use Prim.Native.Nat.{ℕ, _<_}
 use borrow.Author.Needs.{needs}
 use mathlib.Core.Path.{_∙_}
-use native.Mathlib.Nat.{mod-lt}
 use native.Mathlib.Omega.{arith}
+use lib.ListN.{length}
 use borrow.Fn.Kinds.{In}
 use borrow.Fn.PlainCycle.{Measures, is, falls, and}
+use Rattle.fractions.specs.Turns.{linesOf}
+use Rattle.fractions.proofs.Turns.{shorter}
 use Rattle.fractions.proofs.WholeParts.{same-under, whole-less, whole-more, first-whole, second-whole, turned-over}
 use Rattle.fractions.proofs.parts.compare_above.Reads as compare-above
 use Rattle.fractions.proofs.parts.compare_above.Kinds as compare-above-kinds
@@ -14,8 +16,9 @@ use Rattle.fractions.proofs.parts.order_of.Reads as order-of-reads
 use Rattle.fractions.proofs.parts.+compare_above.{statement}
 use Rattle.fractions.proofs.parts.+compare_above.Tie.{close}
 
+-- the lines that are left on the paper: of those there are few (`lines-few`)
 abbrev μ-compare-above : Measures 0 compare-above-kinds.ps ℕ
-μ-compare-above κs a = a .1 .0 + a .1 .1 .1 .0
+μ-compare-above κs a = length (linesOf (a .0) (a .1 .0) (a .1 .1 .0) (a .1 .1 .1 .0))
 
 abbrev compare-above-at : ℕ → In 0 compare-above-kinds.ps
 compare-above-at t =
@@ -123,7 +126,10 @@ compare-above-compare-above-requires : (t : ℕ) → compare-above-lts.Need-comp
   compare-above-below t,
   compare-above.Post,
 ) (compare-above-at t) compare-above.Post
-compare-above-compare-above-requires t c κs = let s = c .before .before .before .before .before in (omega (arith, mod-lt (s .args .n) (s .pre .1 .0), mod-lt (s .args .m) (s .pre .1 .1), s .pre .0), (omega arith, omega arith))
+compare-above-compare-above-requires t c κs =
+    let s = c .before .before .before .before .before in
+    let h = shorter (s .args .n) (s .args .d) (s .args .m) (s .args .e) (s .pre .1 .0) (s .pre .1 .1) (omega arith) (omega arith) (omega arith) in
+    (omega (arith, s .pre .0), (omega arith, omega arith))
 
 compare-above-returns-6 : (t : ℕ) → compare-above-lts.Need-returns-6 (
   order-of-reads.Asked,
