@@ -113,7 +113,8 @@ fn same_product(p: i64, q: i64, u: i64, v: i64) -> bool
     }
 }
 
-// Whether a point is on the line of a piece.
+// Whether a point is on the line of a piece. The way from the min is asked over run and rise, and not the other way
+// round: so its whole parts are large, and nearly always differ.
 fn on_line(s: LineSegment, p: Point) -> bool
     requires { ⌜ Bounded p ⌝ }
     ensures { λ r. ⌜ r ≡ isStraight (turnOf (side s p)) ⌝ }
@@ -124,7 +125,7 @@ fn on_line(s: LineSegment, p: Point) -> bool
     let y = p.y;
     let u = x - scaled(from.x, d);
     let v = y - scaled(from.y, d);
-    same_product(run(s), v, rise(s), u)
+    same_product(v, run(s), u, rise(s))
 }
 
 // Whether a piece has a point: its numbers are those of a chart's point, it is on the line, and between the ends.
