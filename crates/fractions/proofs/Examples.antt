@@ -4,6 +4,8 @@ use lib.IntN.{pos, negsuc}
 use Rattle.fractions.specs.Order.{order}
 use Rattle.fractions.specs.Fraction.{ratioOrder}
 use Rattle.fractions.specs.Divisor.{gcdOf, euclid}
+use Rattle.fractions.specs.Turns.{linesIn, linesOf, fib, fibFrom}
+use Rattle.fractions.specs.Worked.{Worked}
 use Rattle.fractions.specs.Point.{common, lowestOf, pointOrder}
 use Rattle.fractions.specs.declared.Order.the-variants.{Less}
 
@@ -20,3 +22,7 @@ largest = refl
 lower : pointOrder (record { x = pos 1; y = pos 2; d = 3 }) (record { x = pos 2; y = pos 5; d = 6 }) ≡ Less
 unfolding pointOrder ratioOrder order
 lower = refl
+
+worked : Worked
+unfolding linesOf linesIn fib fibFrom ratioOrder order
+worked = record { crossings = refl; later = refl; lefts = refl; earlier = refl; longest = refl; beside-itself = refl }

@@ -11,8 +11,8 @@ pub mod Points
 pub mod Euclid
 pub mod LowestTerms
 pub mod Quotient
+pub mod WholeParts
+pub mod Turns
 pub mod Crossed
-pub mod Halves
-pub mod Borrow
 pub mod Promises
 mod Examples

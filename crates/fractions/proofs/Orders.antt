@@ -1,10 +1,10 @@
 -- The answer `order a b`: what gives it (`order-less`), what it says (`answer`, `less-order`), and the answer turned round.
 use mathlib.Core.Path.{_≡_, sym, ap, subst}
-use Prim.Native.Nat.{ℕ, zero, suc, _+_, _<_, _≤_}
-use native.Mathlib.Omega.{arith}
+use Prim.Native.Nat.{ℕ, _<_}
 use lib.IntN.{ℤ, pos, negℤ}
-use lib.Signed.{_<ℤ_, ltZ-yes}
+use lib.Signed.{_<ℤ_}
 use Rattle.integers.proofs.Naturals.{pos-<}
+use Rattle.integers.proofs.Order.{neg-<}
 use Rattle.integers.proofs.Comparison.{three-less, three-equal, three-greater, by-three}
 use Rattle.fractions.specs.Order.{order, turned}
 use Rattle.fractions.specs.declared.Order.{Order}
@@ -62,6 +62,15 @@ order-turned a b = go (answer a b)
     go (is-equal e) = order-equal (sym e)
     go (is-greater h) = order-less h
 
+-- of the numbers turned round 0
+pub order-negated : (x y : ℤ) → order x y ≡ order (negℤ y) (negℤ x)
+order-negated x y = go (answer x y)
+  where
+    go : {o : Order} → Answer x y o → o ≡ order (negℤ y) (negℤ x)
+    go (is-less h) = sym (order-less (neg-< h))
+    go (is-equal e) = sym (order-equal (ap negℤ (sym e)))
+    go (is-greater h) = sym (order-greater (neg-< h))
+
 -- ---- what a test of the code shows
 module _ {x y : ℕ} where
   pub nat-less : x < y → Less ≡ order (pos x) (pos y)
@@ -72,12 +81,3 @@ module _ {x y : ℕ} where
 
   pub nat-greater : y < x → Greater ≡ order (pos x) (pos y)
   nat-greater h = sym (order-greater (pos-< h))
-
--- -x and y meet only at 0
-pub across-less : (x y : ℕ) → 0 < x + y → Less ≡ order (negℤ (pos x)) (pos y)
-across-less zero y h = nat-less (omega arith)
-across-less (suc x) y h = sym (order-less (ltZ-yes tt))
-
-pub across-equal : (x y : ℕ) → x ≤ 0 → y ≤ 0 → Equal ≡ order (negℤ (pos x)) (pos y)
-across-equal zero y h k = nat-equal (omega arith)
-across-equal (suc x) y h k = absurd (omega arith)

@@ -1,7 +1,8 @@
 -- The promises of specs/Demand.antt, kept.
 use mathlib.Core.Path.{sym, _∙_}
-use Rattle.fractions.specs.Demand.{OneResult, GcdIsGreatest, OrdersPoints, LowestTerms}
+use Rattle.fractions.specs.Demand.{OneResult, GcdIsGreatest, OrdersPoints, LowestTerms, PencilAndPaper}
 use Rattle.fractions.proofs.Euclid.{gcd-greatest}
+use Rattle.fractions.proofs.Turns.{last-says, lines-few, lines-on-a-chart}
 use Rattle.fractions.proofs.Points.{point-itself, point-turned, point-trans, point-alike}
 use Rattle.fractions.proofs.LowestTerms.{lowest-lowest, lowest-same, lowest-bounded, whole-lowest, whole-bounded, one-record}
 use Rattle.fractions.proofs.compare.Reads as compare
@@ -19,6 +20,9 @@ orders-points = record { itself = point-itself; other-way = point-turned; transi
 
 pub lowest-terms : LowestTerms
 lowest-terms = record { lowest = lowest-lowest; same = lowest-same; bounded = lowest-bounded; whole = whole-lowest; whole-bounded = whole-bounded }
+
+pub pencil-and-paper : PencilAndPaper
+pencil-and-paper = record { answers = last-says; few = lines-few; on-a-chart = lines-on-a-chart }
 
 -- ---- each public function's contract, as the check reads it, allows one result
 compare-one : OneResult compare.Post

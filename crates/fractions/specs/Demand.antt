@@ -1,8 +1,11 @@
 -- What is promised of fractions and points. Each statement is a type, inhabited in proofs/Promises.antt.
 use mathlib.Core.Path.{_≡_}
-use Prim.Native.Nat.{ℕ, _<_, _≤_, _^_}
-use lib.IntN.{ℤ, natAbs}
+use Prim.Native.Nat.{ℕ, suc, _<_, _≤_, _^_}
+use lib.IntN.{ℤ, pos, natAbs}
+use lib.ListN.{length}
 use Rattle.fractions.specs.Order.{turned}
+use Rattle.fractions.specs.Fraction.{ratioOrder}
+use Rattle.fractions.specs.Turns.{linesOf, lastSays, fib}
 use Rattle.fractions.specs.Divisor.{Greatest, gcdOf}
 use Rattle.fractions.specs.Point.{Lowest, Bounded, pointOrder, lowestOf, wholeOf}
 use Rattle.fractions.specs.declared.Order.the-variants.{Less, Equal}
@@ -33,3 +36,9 @@ pub record LowestTerms : Type 0 where
   pub bounded : (x y : ℤ) (d : ℕ) → Bounded (record { x = x; y = y; d = d }) → Bounded (lowestOf x y d)
   pub whole : (x y : ℤ) → Lowest (wholeOf x y)
   pub whole-bounded : (x y : ℤ) → natAbs x ≤ 2 ^ 15 → natAbs y ≤ 2 ^ 15 → Bounded (wholeOf x y)
+
+-- two fractions above 0 with pencil and paper: the last line says their order, and the lines are no more than Euclid's: k of them need divisors of at least the (k+1)-th of Fibonacci's numbers. So with D below 2^33 there are at most 48, of two divisions each
+pub record PencilAndPaper : Type 0 where
+  pub answers : (n d m e : ℕ) → 0 < d → 0 < e → lastSays (linesOf n d m e) ≡ ratioOrder (pos n) d (pos m) e
+  pub few : (n d m e : ℕ) → 0 < d → 0 < e → (fib (suc (length (linesOf n d m e))) ≤ d) × (fib (suc (length (linesOf n d m e))) ≤ e)
+  pub on-a-chart : (n d m e : ℕ) → 0 < d → 0 < e → d < 2 ^ 33 → length (linesOf n d m e) ≤ 48

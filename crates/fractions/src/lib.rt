@@ -1,9 +1,8 @@
 // Fractions and points of the chart, compared exactly. Every function takes every value of its
 // types.
-mod limbs;
+mod parts;
 
 use integers::size;
-use limbs::product;
 ghost use mathlib.Core.Path.{_≡_};
 ghost use Prim.Native.Nat.{_<_};
 ghost use lib.IntN.{pos};
@@ -34,23 +33,28 @@ pub struct Point {
     pub d: u64,
 }
 
-// The exact order of two fractions, cross-multiplied.
+// The exact order of two fractions, as cross-multiplication has it; over 0 it is the sign of one product, the other
+// being 0.
 pub fn compare(a: Fraction, b: Fraction) -> Order
     ensures { λ r. ⌜ r ≡ fractionOrder a b ⌝ }
 {
-    let x = product(a.over, b.under);
-    let y = product(b.over, a.under);
-    if a.negative {
-        if b.negative {
-            limbs::compare(y, x)
+    if a.under == 0 {
+        return parts::sign_times(a, b.under);
+    }
+    if b.under == 0 {
+        return turn(parts::sign_times(b, a.under));
+    }
+    if parts::is_below(a) {
+        if parts::is_below(b) {
+            parts::compare_below(a.over, a.under, b.over, b.under)
         } else {
-            limbs::compare_across(x, y)
+            Order::Less
         }
     } else {
-        if b.negative {
-            turn(limbs::compare_across(y, x))
+        if parts::is_below(b) {
+            Order::Greater
         } else {
-            limbs::compare(x, y)
+            parts::compare_above(a.over, a.under, b.over, b.under)
         }
     }
 }

@@ -33,8 +33,11 @@ pub record Examples : Type 0 where
   pub no-touch : intersectOf (at 3 0 0 4 0) (at 2 2 0 3 5) ≡ Nothing
   -- "the mark travels with its end": the first of kind 1, here the greater
   pub mark : at 1 5 0 2 0 ≡ record { min = record { x = pos 2; y = pos 0; included = false }; max = record { x = pos 5; y = pos 0; included = true } }
+  -- the two crossings that docs/COMPARISON.md compares
+  pub compared : crossingOf (at 3 1 4 7 7) (at 3 1 6 8 1) ≡ record { x = pos 45; y = pos 82; d = 17 }
+  pub compared-with : crossingOf (at 3 0 9 9 5) (at 3 0 0 3 9) ≡ record { x = pos 81; y = pos 243; d = 31 }
 
 pub examples : Examples
 unfolding pieceOf firstIncluded secondIncluded joinOf joinBy endOrder pointOf pointOrder ratioOrder order intersectOf astrideOf opposed turnTo turnOf det stretchOf stretchBy rightmostOf rightBy leftmostOf leftBy touchOf innerBetween within crossingOf cramerOf over run rise moment lowestOf common gcdOf euclid
 examples =
-    record { middle = refl; thirds = refl; thirds-at = refl; one-point = refl; no-point = refl; touch = refl; touch-at = refl; no-touch = refl; mark = refl }
+    record { middle = refl; thirds = refl; thirds-at = refl; one-point = refl; no-point = refl; touch = refl; touch-at = refl; no-touch = refl; mark = refl; compared = refl; compared-with = refl }

@@ -10,7 +10,7 @@ use Rattle.integers.specs.Size.{Small}
 use Rattle.integers.proofs.Machine.{Mach, m-add, m-neg, m-back, m-small, m-fits, m-eq}
 use mathlib.Core.List.{[], _∷_}
 use lib.Dec.{ltb, ltb→lt}
-use lib.IntN.{ℤ, pos, negsuc, natAbs, negℤ, _-ℤ_, _*ℤ_, *ℤ-zero, +ℤ-invr}
+use lib.IntN.{ℤ, pos, negsuc, natAbs, negℤ, _-ℤ_, _*ℤ_, *ℤ-comm, *ℤ-zero, +ℤ-invr}
 use lib.Signed.{ltZ, _≤ℤ_, _<ℤ_}
 use borrow.Author.Tests.{lt-ltb, le-ltb, ltb-true}
 use Rattle.integers.proofs.Ring.{neg-*ℤ, *ℤ-idr}
@@ -150,6 +150,7 @@ module _ (s : LineSegment) (p : Point) where
 
 -- the line's determinant from its factors
 pub side-is : (s : LineSegment) (p : Point) {r y q x c d : ℤ} → c ≡ s .min .x → d ≡ s .min .y
-    → r ≡ run s → y ≡ p .y -ℤ d *ℤ pos (p .d) → q ≡ rise s → x ≡ p .x -ℤ c *ℤ pos (p .d) → r *ℤ y -ℤ q *ℤ x ≡ side s p
+    → r ≡ run s → y ≡ p .y -ℤ d *ℤ pos (p .d) → q ≡ rise s → x ≡ p .x -ℤ c *ℤ pos (p .d) → y *ℤ r -ℤ x *ℤ q ≡ side s p
 unfolding side
-side-is s p u v e f g h = (λ i. e i *ℤ f i -ℤ g i *ℤ h i) ∙ (λ i. run s *ℤ (p .y -ℤ v i *ℤ pos (p .d)) -ℤ rise s *ℤ (p .x -ℤ u i *ℤ pos (p .d)))
+side-is s p {r = r} {y = y} {q = q} {x = x} u v e f g h =
+    (λ i. *ℤ-comm y r i -ℤ *ℤ-comm x q i) ∙ (λ i. e i *ℤ f i -ℤ g i *ℤ h i) ∙ (λ i. run s *ℤ (p .y -ℤ v i *ℤ pos (p .d)) -ℤ rise s *ℤ (p .x -ℤ u i *ℤ pos (p .d)))

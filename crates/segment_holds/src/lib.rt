@@ -26,6 +26,9 @@ const D_LIMIT: u64 = 8589934592;
 
 const SIZE_LIMIT: u64 = 281474976710656;
 
+// 2^46: times the run of a piece, 2^16 at most, it has room in an i64. Most points of a chart come nowhere near it.
+const PLAIN_LIMIT: u64 = 70368744177664;
+
 // Whether the numbers of a point are as small as those of a chart's points.
 fn in_bounds(p: Point) -> bool
     ensures { λ r. ⌜ r ≡ inBounds p ⌝ }
@@ -113,7 +116,24 @@ fn same_product(p: i64, q: i64, u: i64, v: i64) -> bool
     }
 }
 
-// Whether a point is on the line of a piece.
+// The same where the products have room.
+fn same_plain(p: i64, q: i64, u: i64, v: i64) -> bool
+    requires { ⌜ (Small (2 ^ 46) p × Small (2 ^ 16) q) × (Small (2 ^ 46) u × Small (2 ^ 16) v) ⌝ }
+    ensures { λ r. ⌜ r ≡ isStraight (turnOf (p *ℤ q -ℤ u *ℤ v)) ⌝ }
+{
+    let a = p * q;
+    let b = u * v;
+    if a < b {
+        return false;
+    }
+    if b < a {
+        return false;
+    }
+    true
+}
+
+// Whether a point is on the line of a piece. As fractions, the way from the min stands over run and rise and not the
+// other way round: so the whole parts are large, and nearly always differ.
 fn on_line(s: LineSegment, p: Point) -> bool
     requires { ⌜ Bounded p ⌝ }
     ensures { λ r. ⌜ r ≡ isStraight (turnOf (side s p)) ⌝ }
@@ -124,7 +144,14 @@ fn on_line(s: LineSegment, p: Point) -> bool
     let y = p.y;
     let u = x - scaled(from.x, d);
     let v = y - scaled(from.y, d);
-    same_product(run(s), v, rise(s), u)
+    let along = run(s);
+    let up = rise(s);
+    if size(u) < PLAIN_LIMIT {
+        if size(v) < PLAIN_LIMIT {
+            return same_plain(v, along, u, up);
+        }
+    }
+    same_product(v, along, u, up)
 }
 
 // Whether a piece has a point: its numbers are those of a chart's point, it is on the line, and between the ends.
