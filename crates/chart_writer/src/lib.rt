@@ -1,0 +1,106 @@
+// The chart file's writer: a list of numbers goes out as the file that the reader takes it from.
+ghost use mathlib.Core.Path.{_≡_};
+ghost use Prim.Native.Nat.{_+_, _≤_, _<_, _^_};
+ghost use lib.ListN.{length};
+ghost use lib.Seq.{sets};
+ghost use Rattle.chart_file.specs.Groups.{spelled};
+ghost use Rattle.chart_file.specs.Coordinate.{stored as Coordinate·stored};
+ghost use Rattle.chart_file.specs.Format.{groups, bytesOf, bytesFrom};
+ghost use Rattle.chart_file.specs.Demand.{InRange};
+ghost use Rattle.chart_writer.specs.Zeros.{groupsBy};
+ghost use Rattle.chart_writer.specs.Writing.{InRanges, writingOf, Writes};
+use charts::Answer;
+use charts::Verdict;
+use chart_file::LONGEST;
+
+// What a coordinate is stored as.
+fn stored(v: i32) -> u32
+    ensures { λ r. ⌜ r ≡ Coordinate·stored v ⌝ }
+{
+    if v < 0 {
+        return 2 * ((-1 - v) as u32) + 1;
+    }
+    2 * (v as u32)
+}
+
+// How many groups a stored number takes: seven of its binary digits each, and one group where it has none. Its digits are
+// those below its leading zeros.
+fn group_count(v: u32) -> usize
+    ensures { λ r. ⌜ r ≡ groupsBy 32 v ⌝ }
+{
+    let digits = 32 - u32::leading_zeros(v);
+    if digits == 0 {
+        return 1;
+    }
+    ((digits + 6) / 7) as usize
+}
+
+// Writes the groups of a stored number at a place; the place after them.
+fn put_groups(v: u32, out: &mut [u8], at: usize) -> usize
+    requires { ⌜ (v < 128 ^ groups) × (at + length (spelled groups v) ≤ length (now out)) ⌝ }
+    ensures { λ r. ⌜ (r ≡ at + length (spelled groups v)) × (now (out .exit) ≡ sets (now (out .entry)) at (spelled groups v)) ⌝ }
+{
+    let last = group_count(v) - 1;
+    let mut rest = v;
+    for g in 0..last {
+        out[at + g] = (128 + rest % 128) as u8;
+        rest /= 128;
+    }
+    out[at + last] = rest as u8;
+    at + last + 1
+}
+
+// Writes number c of a piece at a place; the place after it.
+fn put_number(c: usize, v: i32, out: &mut [u8], at: usize) -> usize
+    requires { ⌜ InRange c v × (at + length (bytesOf c v) ≤ length (now out)) ⌝ }
+    ensures { λ r. ⌜ (r ≡ at + length (bytesOf c v)) × (now (out .exit) ≡ sets (now (out .entry)) at (bytesOf c v)) ⌝ }
+{
+    if c == 0 {
+        out[at] = v as u8;
+        return at + 1;
+    }
+    put_groups(stored(v), out, at)
+}
+
+// Writes the numbers of a list from a place on; the place after them.
+fn put_numbers(list: &[i32], out: &mut [u8], at: usize) -> usize
+    requires { ⌜ InRanges (now list) × (at + length (bytesFrom 0 (now list)) ≤ length (now out)) ⌝ }
+    ensures { λ r. ⌜ (r ≡ at + length (bytesFrom 0 (now (list .entry)))) × (now (out .exit) ≡ sets (now (out .entry)) at (bytesFrom 0 (now (list .entry)))) ⌝ }
+{
+    let mut next = at;
+    let n = list.len();
+    for i in 0..n {
+        next = put_number(i % 5, list[i], out, next);
+    }
+    next
+}
+
+// The verdict on a list whose file goes into `lent` bytes: the longest file is to fit, whatever this one's length.
+fn writing_of(list: &[i32], lent: usize) -> Verdict
+    ensures { λ r. ⌜ r ≡ writingOf (now (list .entry)) lent ⌝ }
+{
+    match charts::verdict_of(list) {
+        Verdict::Refused(number, place) => Verdict::Refused(number, place),
+        Verdict::Accepted(n) => {
+            if lent < LONGEST {
+                Verdict::Refused(8, 0)
+            } else {
+                Verdict::Accepted(n)
+            }
+        }
+    }
+}
+
+// Writes a chart's file into lent bytes, at least LONGEST of them; how many it takes. Where the list is refused, nothing is
+// written.
+pub fn write(list: &[i32], out: &mut [u8]) -> Answer
+    ensures { λ r. ⌜ Writes (now (list .entry)) (now (out .entry)) r (now (out .exit)) ⌝ }
+{
+    match writing_of(list, out.len()) {
+        Verdict::Refused(number, place) => charts::refused(number, place),
+        Verdict::Accepted(n) => {
+            out[0] = n as u8;
+            charts::done(put_numbers(list, out, 1))
+        }
+    }
+}
