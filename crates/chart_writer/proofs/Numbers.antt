@@ -43,6 +43,11 @@ coordinate-small (suc c) v e r =
 
 -- ---- the numbers of a list
 
+-- from number i on: that number, and those after it
+pub one-of : (list : List ℤ) (i : ℕ) → i < length list → bytesFrom i (drop i list) ≡ bytesOf (i % 5) (getD list i (pos 0)) ++ bytesFrom (suc i) (drop (suc i) list)
+unfolding bytesFrom
+one-of list i h = rw (drop-cons list i (pos 0) h)
+
 -- i numbers have gone into `before` from a place on, which made it `now`; the others are due at `next`
 pub record Rest (list : List ℤ) (at : ℕ) (before : List ℕ) (i next : ℕ) (now : List ℕ) : Type 0 where
   pub place : next + length (bytesFrom i (drop i list)) ≡ at + length (bytesFrom 0 list)
@@ -56,19 +61,15 @@ module _ (list : List ℤ) (at : ℕ) (before : List ℕ) (i next : ℕ) (now : 
   abbrev number : ℤ
   number = getD list i (pos 0)
 
-  split : i < length list → bytesFrom i (drop i list) ≡ bytesOf (i % 5) number ++ bytesFrom (suc i) (drop (suc i) list)
-  unfolding bytesFrom
-  split h = rw (drop-cons list i (pos 0) h)
-
   -- number i has room where all have
   pub has-room : i < length list → at + length (bytesFrom 0 list) ≤ length before → next + length (bytesOf (i % 5) number) ≤ length now
-  has-room h r = omega (arith, w .place, w .size, ap length (split h), length-append (bytesOf (i % 5) number) (bytesFrom (suc i) (drop (suc i) list)))
+  has-room h r = omega (arith, w .place, w .size, ap length (one-of list i h), length-append (bytesOf (i % 5) number) (bytesFrom (suc i) (drop (suc i) list)))
 
   pub one-rest : i < length list → (next′ : ℕ) (now′ : List ℕ) → next′ ≡ next + length (bytesOf (i % 5) number) → now′ ≡ sets now next (bytesOf (i % 5) number)
       → Rest list at before (i + 1) next′ now′
   one-rest h next′ now′ p q = record {
-    place = rw (add-one i) (omega (arith, w .place, ap length (split h), length-append (bytesOf (i % 5) number) (bytesFrom (suc i) (drop (suc i) list))));
-    ends = rw (add-one i, p, q, ← sets-append) (rw (split h) at (w .ends));
+    place = rw (add-one i) (omega (arith, w .place, ap length (one-of list i h), length-append (bytesOf (i % 5) number) (bytesFrom (suc i) (drop (suc i) list))));
+    ends = rw (add-one i, p, q, ← sets-append) (rw (one-of list i h) at (w .ends));
     size = ap length q ∙ length-sets now next (bytesOf (i % 5) number) ∙ w .size;
   }
 

@@ -1,7 +1,7 @@
 -- What a call of the writer answers and leaves, by the verdict on its list and its room.
-use mathlib.Core.Path.{_≡_, refl, sym, ap, _∙_}
-use mathlib.Core.List.{List, _++_}
-use Prim.Native.Nat.{ℕ, suc, _+_, _/_, _≤_}
+use mathlib.Core.Path.{_≡_, refl, ap, _∙_}
+use mathlib.Core.List.{List}
+use Prim.Native.Nat.{ℕ, _+_, _*_, _/_, _≤_}
 use native.Mathlib.Omega.{arith}
 use lib.IntN.{ℤ}
 use lib.ListN.{length, set}
@@ -19,12 +19,12 @@ use Rattle.chart_file.proofs.Files.{chart-ranges}
 use Rattle.chart_file.proofs.Longest.{file-no-longer}
 use Rattle.chart_writer.specs.Writing.{writingOf, Writes, InRanges}
 
--- the count of an accepted list is that of its fives
-pub accepted-count : (list : List ℤ) (n : ℕ) → verdictOf list ≡ Accepted n → n ≡ length list / 5
-accepted-count list n e = go (refuses-exactly list (Accepted n) .0 e)
+-- an accepted list has five numbers a piece
+pub accepted-fives : (list : List ℤ) (n : ℕ) → verdictOf list ≡ Accepted n → length list ≡ 5 * n
+accepted-fives list n e = go (refuses-exactly list (Accepted n) .0 e)
   where
-    go : Due list (Accepted n) → n ≡ length list / 5
-    go (done n q h s) = omega arith
+    go : Due list (Accepted n) → length list ≡ 5 * n
+    go (done n q h s) = q
 
 module _ (list : List ℤ) (lent : List ℕ) where
   -- what is known where the writing goes ahead
@@ -41,7 +41,7 @@ module _ (list : List ℤ) (lent : List ℕ) where
       let g = room-goes list (λ n. longest) (length lent) n e in
       record {
         accepted = g .0;
-        count = accepted-count list n (g .0);
+        count = omega (arith, accepted-fives list n (g .0));
         ranges = record { ranged = chart-ranges list n (g .0) };
         room = g .1;
         fits = omega (arith, g .1, file-no-longer list n (g .0));

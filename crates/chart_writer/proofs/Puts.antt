@@ -1,9 +1,8 @@
 -- Groups put into bytes one by one, whatever the most groups: what is left to put, and that putting it ends as all of it does.
-use mathlib.Core.Path.{_≡_, refl, sym, ap, _∙_}
-use mathlib.Core.List.{List, []}
+use mathlib.Core.Path.{_≡_, refl, ap, _∙_}
+use mathlib.Core.List.{List}
 use Prim.Native.Nat.{ℕ, zero, suc, _+_, _/_, _%_, _^_, _≤_, _<_}
 use native.Mathlib.Nat.{add-zero}
-use native.Mathlib.Numerals.{add-one}
 use native.Mathlib.Decide.{decLt}
 use native.Mathlib.Omega.{arith}
 use lib.ListN.{length, set, length-set}
@@ -49,22 +48,20 @@ all-left (suc k) v at before p b = record { most = k; below = b; counted = omega
 module _ (k v at : ℕ) (before : List ℕ) (g rest : ℕ) (now : List ℕ) (l : Left k v at before g rest now) where
   -- a group that is not the last
   pub one-more : g + 1 < length (spelled k v) → Left k v at before (g + 1) (rest / 128) (set now (at + g) (128 + rest % 128))
-  one-more h = go (l .most) (l .below) (l .counted) (l .ends)
+  one-more h = step (l .most) (l .below) (l .counted) (l .ends)
     where
-      go : (m : ℕ) → rest < 128 ^ suc m → g + length (spelled (suc m) rest) ≡ length (spelled k v)
+      step : (m : ℕ) → rest < 128 ^ suc m → g + length (spelled (suc m) rest) ≡ length (spelled k v)
           → sets now (at + g) (spelled (suc m) rest) ≡ sets before at (spelled k v)
           → Left k v at before (g + 1) (rest / 128) (set now (at + g) (128 + rest % 128))
-      go m b c e = step m (more-left m rest (omega arith)) b c e
-        where
-          step : (m : ℕ) → 128 ≤ rest → rest < 128 ^ suc m → g + length (spelled (suc m) rest) ≡ length (spelled k v)
-              → sets now (at + g) (spelled (suc m) rest) ≡ sets before at (spelled k v)
-              → Left k v at before (g + 1) (rest / 128) (set now (at + g) (128 + rest % 128))
-          step zero q b c e = absurd (omega (arith, rest-due zero rest q b))
-          step (suc m) q b c e = record {
+      step zero b c e = absurd (omega (arith, rest-due zero rest (more-left zero rest (omega arith)) b))
+      step (suc m) b c e =
+          let q = more-left (suc m) rest (omega arith) in
+          let z : at + (g + 1) ≡ suc (at + g) = omega arith in
+          record {
             most = m;
             below = rest-below (suc m) rest b;
             counted = omega (arith, c, ap length (spelled-more (suc m) rest q));
-            ends = let z : at + (g + 1) ≡ suc (at + g) = omega arith in rw (z) (rw (spelled-more (suc m) rest q) at e);
+            ends = rw z (rw (spelled-more (suc m) rest q) at e);
             size = length-set now (at + g) (128 + rest % 128) ∙ l .size;
           }
 

@@ -1,13 +1,12 @@
 -- The group count from leading zeros is the count of a number's groups, whatever the width and the most groups.
 use mathlib.Core.Path.{_≡_, refl, sym, ap, _∙_}
-use Prim.Native.Nat.{ℕ, zero, suc, _+_, _-_, _*_, _/_, _%_, _^_, _≤_, _<_}
-use native.Mathlib.Nat.{pow-suc}
+use Prim.Native.Nat.{ℕ, zero, suc, _+_, _-_, _*_, _/_, _^_, _≤_, _<_}
 use native.Mathlib.Decide.{decLt}
 use native.Mathlib.Omega.{arith}
-use borrow.Author.Tests.{eq-eqb, ne-eqb}
+use borrow.Author.Tests.{ne-eqb}
 use lib.Count.{leadingZeros, leading-length}
 use lib.ListN.{length}
-use lib.Pow.{pow-add, pow-pos, pow-mono}
+use lib.Pow.{pow-add, pow-mono}
 use Rattle.chart_file.specs.Groups.{spelled}
 use Rattle.chart_file.proofs.Spelling.{spelled-last, spelled-more, rest-below, rest-due}
 use Rattle.chart_writer.specs.Zeros.{groupsOf, groupsBy}

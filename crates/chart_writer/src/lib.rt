@@ -9,9 +9,9 @@ ghost use Rattle.chart_file.specs.Format.{groups, bytesOf, bytesFrom};
 ghost use Rattle.chart_file.specs.Demand.{InRange};
 ghost use Rattle.chart_writer.specs.Zeros.{groupsBy};
 ghost use Rattle.chart_writer.specs.Writing.{InRanges, writingOf, Writes};
+use chart_file::LONGEST;
 use charts::Answer;
 use charts::Verdict;
-use chart_file::LONGEST;
 
 // What a coordinate is stored as.
 fn stored(v: i32) -> u32

@@ -1,13 +1,8 @@
 -- `put_number`: a kind is one byte, a coordinate the groups of what it is stored as.
 use borrow.Author.Needs.{needs}
-use mathlib.Core.Path.{_≡_, refl, sym, ap, _∙_}
-use Prim.Native.Nat.{ℕ, _+_}
+use mathlib.Core.Path.{_≡_, refl, ap, _∙_}
 use native.Mathlib.Omega.{arith}
-use lib.IntN.{ℤ, natAbs}
 use lib.ListN.{length}
-use lib.Seq.{sets}
-use mir.Syntax.{w32}
-use mir.Val.{ofZ, toZ}
 use mir.Facts.{toZ-ofZ}
 use Rattle.chart_file.specs.Coordinate.{stored}
 use Rattle.chart_writer.proofs.Numbers.{kind-bytes, kind-small, coordinate-bytes, coordinate-small}

@@ -1,10 +1,10 @@
 -- `stored`: twice a coordinate from 0 on; below 0 twice what it lies below -1, and one more.
-use mathlib.Core.Path.{_≡_, refl, sym, ap, _∙_}
+use mathlib.Core.Path.{_≡_, refl, ap, _∙_}
 use mathlib.Core.Bool.{true, false}
-use Prim.Native.Nat.{ℕ, zero, suc, _+_, _*_, _^_, _<_}
+use Prim.Native.Nat.{ℕ, suc, _+_, _*_, _^_, _<_}
 use native.Mathlib.Omega.{arith}
 use borrow.Author.Tests.{ltb-true, le-ltb}
-use lib.IntN.{ℤ, pos, negsuc, natAbs, _-ℤ_}
+use lib.IntN.{ℤ, pos, negsuc, _-ℤ_}
 use lib.Signed.{ltZ}
 use mir.Syntax.{w32}
 use mir.Val.{SFits, ofZ, toZ}
