@@ -11,7 +11,7 @@ enum { ROOM = 1 << 18, MOST = 1 << 16, PAINT = 0xA5, PIECES = 64, LIST = 5 * PIE
 static _Alignas(64) unsigned char stack[ROOM];
 static ucontext_t host, guest;
 static int32_t list[LIST];
-static uint8_t file[LONGEST], pairs[PIECES * (PIECES - 1)];
+static uint8_t file[LONGEST], again[LONGEST], pairs[PIECES * (PIECES - 1)];
 static int wrong;
 
 static void nothing(void) {}
@@ -23,6 +23,8 @@ static void compare_points(void) {
 static void orient(void) { wrong |= mirtalughe_orient(0, 0, 4, 0, 4, 4) != 1; }
 
 static void read(void) { wrong |= mirtalughe_read(file, LONGEST, list, LIST).count != PIECES; }
+
+static void write(void) { wrong |= mirtalughe_write(list, LIST, again, LONGEST).count != LONGEST; }
 
 static void meeting(void) { wrong |= mirtalughe_meeting(list, 10).meets != 1; }
 
@@ -74,7 +76,7 @@ int main(void) {
     } calls[] = {
         {"mirtalughe_read", read},       {"mirtalughe_orient", orient}, {"mirtalughe_compare_points", compare_points},
         {"mirtalughe_meeting", meeting}, {"mirtalughe_place", place},   {"mirtalughe_all_pairs", all_pairs},
-        {"mirtalughe_sweep", sweep},
+        {"mirtalughe_sweep", sweep},     {"mirtalughe_write", write},
     };
     largest();
     size_t none = taken(nothing), most = 0;

@@ -1,5 +1,5 @@
 /* Fuzzes mirtalughe_read beside a reader written from the scope's text alone: the answer and every
-   lent number must be equal. The first byte of an input chooses how many numbers are lent.
+   lent number must be equal, and what is read must be written again by mirtalughe_write as it was. The first byte of an input chooses how many numbers are lent.
 
      rt staticlib chart_c
      clang -O1 -g -fsanitize=fuzzer,address -Icrates/chart_c/include tests/fuzz/read.c \
@@ -10,7 +10,7 @@
 
 #include "mirtalughe.h"
 
-enum { ROOM = 320, MOST_LENT = 330, LIMIT = 32767 };
+enum { ROOM = 320, MOST_LENT = 330, LONGEST = 833, LIMIT = 32767 };
 
 static mirtalughe_answer refused(int number, size_t place) {
     return (mirtalughe_answer){.number = number, .place = place, .count = 0};
@@ -64,5 +64,10 @@ int LLVMFuzzerTestOneInput(const uint8_t *input, size_t length) {
     mirtalughe_answer b = mirtalughe_read(input + 1, length - 1, theirs, lent);
     if (a.number != b.number || a.place != b.place || a.count != b.count) abort();
     if (memcmp(ours, theirs, sizeof ours) != 0) abort();
+    if (b.number != 0) return 0;
+    uint8_t file[LONGEST];
+    mirtalughe_answer c = mirtalughe_write(theirs, 5 * b.count, file, LONGEST);
+    if (c.number != 0 || c.place != 0 || c.count != length - 1) abort();
+    if (memcmp(file, input + 1, c.count) != 0) abort();
     return 0;
 }

@@ -29,6 +29,9 @@ pub const MOST_PIECES: usize = 64;
 /// How many numbers are lent to [`read`] at least.
 pub const LIST_ROOM: usize = 5 * MOST_PIECES;
 
+/// How many bytes are lent to [`write`] at least: the longest chart file.
+pub const FILE_ROOM: usize = 1 + 13 * MOST_PIECES;
+
 /// kind, x1, y1, x2, y2
 pub type Piece = [i32; 5];
 
@@ -120,6 +123,15 @@ pub fn read<'a>(file: &[u8], lent: &'a mut [i32]) -> Result<&'a [Piece], Refusal
   let answer = unsafe { calls::mirtalughe_read(file.as_ptr(), file.len(), lent.as_mut_ptr(), lent.len()) };
   let count = answer.checked(Given::File)?;
   Ok(&lent.as_chunks().0[..count])
+}
+
+/// Writes a chart's file into lent bytes and returns it. At least [`FILE_ROOM`] bytes are to be lent; those past the file
+/// keep their values.
+pub fn write<'a>(list: &[i32], lent: &'a mut [u8]) -> Result<&'a [u8], Refusal> {
+  // SAFETY: both pointers are good for their lengths, and the lent bytes are borrowed alone.
+  let answer = unsafe { calls::mirtalughe_write(list.as_ptr(), list.len(), lent.as_mut_ptr(), lent.len()) };
+  let count = answer.checked(Given::List)?;
+  Ok(&lent[..count])
 }
 
 /// How the two pieces of ten numbers meet, the first one asking.

@@ -85,6 +85,27 @@ fn lists() {
   }
 }
 
+#[test]
+fn writing() {
+  for (list, fault, place, told) in wrong_lists() {
+    refused_writing(&list, 0, fault, place, told);
+    refused_writing(&list, FILE_ROOM, fault, place, told);
+  }
+  let many = "refused 3: the count of pieces is above 64";
+  refused_writing(&[SOUND; 65].concat(), FILE_ROOM, Fault::TooManyPieces, 0, many);
+  for count in [0, 1, 64] {
+    refused_writing(&[SOUND; 64][..count].concat(), FILE_ROOM - 1, Fault::RoomTooSmall, 0, ROOM);
+  }
+}
+
+fn refused_writing(list: &[i32], room: usize, fault: Fault, place: usize, told: &str) {
+  let mut lent = vec![9; room];
+  let refused = write(list, &mut lent).unwrap_err();
+  assert_eq!(refused, Refusal { fault, place, given: Given::List }, "{list:?}");
+  assert_eq!(refused.to_string(), told);
+  assert!(lent.iter().all(|b| *b == 9));
+}
+
 fn refused_list(list: &[i32], room: usize, fault: Fault, place: usize, told: &str) {
   let mut lent = vec![9; room];
   let refused = all_pairs(list, &mut lent).unwrap_err();

@@ -11,7 +11,7 @@ extern "C" {
 #endif
 
 /* A number of the table of refusals, 0 where the call is done; its place; and the count of pieces
-   read or pairs listed. A refusal has count 0 and leaves lent memory as it is. */
+   read, bytes written or pairs listed. A refusal has count 0 and leaves lent memory as it is. */
 typedef struct {
     uint8_t number;
     size_t place;
@@ -63,6 +63,10 @@ int8_t mirtalughe_compare_points(int64_t x1, int64_t y1, uint64_t d1, int64_t x2
 /* Reads a chart file into a lent list, five numbers a piece: kind, x1, y1, x2, y2. `lent` is to be at
    least 320. Numbers past the last piece keep their values. */
 mirtalughe_answer mirtalughe_read(const uint8_t *file, size_t size, int32_t *list, size_t lent);
+
+/* Writes the file of a chart into lent bytes and counts them. `lent` is to be at least 833, whatever the chart. Bytes past
+   the file keep their values. */
+mirtalughe_answer mirtalughe_write(const int32_t *list, size_t length, uint8_t *file, size_t lent);
 
 /* How the two pieces of ten numbers meet, the first one asking. */
 mirtalughe_met mirtalughe_meeting(const int32_t *list, size_t length);

@@ -2,6 +2,7 @@
 //!
 //!   compare gate               the fixed charts
 //!   compare long SEED COUNT    those kept by hand, and COUNT random charts of each temper from SEED
+//!   compare written            the charts of the gate, each with the file that the library writes
 //!   compare record FOLDER      writes the Rust's answers on a fixed sample
 //!   compare listing FILE       what the Rust lists of a chart file, as the chart program's text
 //!   compare bench FOLDER       how long calls take, beside the Rust and the programs in FOLDER
@@ -32,6 +33,7 @@ mod shrink;
 mod sweep;
 mod sweep_call;
 mod text;
+mod writing;
 
 use std::panic;
 use std::process::ExitCode;
@@ -56,6 +58,12 @@ struct Family {
 
 type Check = fn(&Chart) -> Result<(), String>;
 
+impl Family {
+  fn charts(&self) -> impl Iterator<Item = Chart> {
+    (0..self.count).map(|i| (self.chart)(i))
+  }
+}
+
 fn main() -> ExitCode {
   let words: Vec<String> = std::env::args().skip(1).collect();
   let words: Vec<&str> = words.iter().map(String::as_str).collect();
@@ -65,6 +73,7 @@ fn main() -> ExitCode {
       (Ok(seed), Ok(count)) => (long(seed, count), seed, count),
       _ => return usage(),
     },
+    ["written"] => return written(writing::print(whole().iter().flat_map(Family::charts))),
     ["record", folder] => return written(record::write(folder.as_ref())),
     ["listing", file] => return written(record::print_listing(file.as_ref())),
     ["bench", programs] => return written(bench::print(programs.as_ref())),
@@ -89,9 +98,9 @@ fn main() -> ExitCode {
   }
   let start = Instant::now();
   match files::compare(seed, files) {
-    Ok(count) => {
+    Ok((count, read)) => {
       let seconds = start.elapsed().as_secs_f32();
-      println!("compare: {count} files, {seconds:.1} s");
+      println!("compare: {count} files, {read} of them read and written again, {seconds:.1} s");
       ExitCode::SUCCESS
     }
     Err(told) => {
@@ -102,7 +111,9 @@ fn main() -> ExitCode {
 }
 
 fn usage() -> ExitCode {
-  eprintln!("usage: compare gate | long SEED COUNT | record FOLDER | listing FILE | bench FOLDER");
+  eprintln!(
+    "usage: compare gate | long SEED COUNT | written | record FOLDER | listing FILE | bench FOLDER"
+  );
   ExitCode::from(2)
 }
 
@@ -117,10 +128,16 @@ fn written(outcome: std::io::Result<()>) -> ExitCode {
 }
 
 fn gate() -> Vec<Family> {
+  let mut families = whole();
+  families.insert(2, grid_pairs());
+  families
+}
+
+/// Those of the gate on which everything is compared.
+fn whole() -> Vec<Family> {
   vec![
     kept(),
     tiny(),
-    grid_pairs(),
     random("degenerate", GATE_SEED, 17_000, charts::degenerate),
     random("extreme", GATE_SEED, 3_000, charts::extreme),
     random("near-tied", GATE_SEED, 2_000, charts::near_ties),
