@@ -2,11 +2,10 @@
 use mathlib.Core.Path.{_≡_, refl, sym, ap, _∙_}
 use mathlib.Core.List.{List, [], _∷_, _++_}
 use Prim.Native.Nat.{ℕ, zero, suc, _+_, _%_, _^_, _≤_, _<_}
-use native.Mathlib.Numerals.{add-one}
 use native.Mathlib.Omega.{arith}
 use borrow.Author.Tests.{ltb-false}
 use lib.IntN.{ℤ, pos, negℤ, natAbs}
-use lib.ListN.{length, getD, drop, length-append}
+use lib.ListN.{length, getD, drop, set, length-append}
 use lib.Seq.{sets, length-sets, drop-cons, drop-length}
 use Rattle.charts.specs.Fault.{range, outside}
 use Rattle.charts.proofs.Rows.{is-false, says-outside}
@@ -20,7 +19,7 @@ use Rattle.chart_file.proofs.Turned.{signed-stored, outside-stored}
 
 -- ---- one number
 
-pub kind-bytes : (c : ℕ) (v : ℤ) → c ≡ 0 → bytesOf c v ≡ natAbs v ∷ []
+kind-bytes : (c : ℕ) (v : ℤ) → c ≡ 0 → bytesOf c v ≡ natAbs v ∷ []
 unfolding bytesOf
 kind-bytes zero v e = refl
 kind-bytes (suc c) v e = absurd (omega arith)
@@ -57,21 +56,43 @@ pub record Rest (list : List ℤ) (at : ℕ) (before : List ℕ) (i next : ℕ) 
 pub all-rest : (list : List ℤ) (at : ℕ) (before : List ℕ) → Rest list at before 0 at before
 all-rest list at before = record { place = refl; ends = refl; size = refl }
 
+-- whatever led to one state leads on to the other
+abbrev pub Onward : List ℤ → ℕ → ℕ → List ℕ → ℕ → ℕ → List ℕ → Type 0
+Onward list i next now j next′ now′ = (at : ℕ) (before : List ℕ) → Rest list at before i next now → Rest list at before j next′ now′
+
 module _ (list : List ℤ) (at : ℕ) (before : List ℕ) (i next : ℕ) (now : List ℕ) (w : Rest list at before i next now) where
   abbrev number : ℤ
   number = getD list i (pos 0)
 
-  -- number i has room where all have
-  pub has-room : i < length list → at + length (bytesFrom 0 list) ≤ length before → next + length (bytesOf (i % 5) number) ≤ length now
-  has-room h r = omega (arith, w .place, w .size, ap length (one-of list i h), length-append (bytesOf (i % 5) number) (bytesFrom (suc i) (drop (suc i) list)))
+  room-of : i < length list → at + length (bytesFrom 0 list) ≤ length before → next + length (bytesOf (i % 5) number) ≤ length now
+  room-of h r = omega (arith, w .place, w .size, ap length (one-of list i h), length-append (bytesOf (i % 5) number) (bytesFrom (suc i) (drop (suc i) list)))
 
-  pub one-rest : i < length list → (next′ : ℕ) (now′ : List ℕ) → next′ ≡ next + length (bytesOf (i % 5) number) → now′ ≡ sets now next (bytesOf (i % 5) number)
-      → Rest list at before (i + 1) next′ now′
-  one-rest h next′ now′ p q = record {
-    place = rw (add-one i) (omega (arith, w .place, ap length (one-of list i h), length-append (bytesOf (i % 5) number) (bytesFrom (suc i) (drop (suc i) list))));
-    ends = rw (add-one i, p, q, ← sets-append) (rw (one-of list i h) at (w .ends));
+  rest-of : i < length list → (j next′ : ℕ) (now′ : List ℕ) → j ≡ suc i → next′ ≡ next + length (bytesOf (i % 5) number) → now′ ≡ sets now next (bytesOf (i % 5) number)
+      → Rest list at before j next′ now′
+  rest-of h j next′ now′ e p q = record {
+    place = rw e (omega (arith, p, w .place, ap length (one-of list i h), length-append (bytesOf (i % 5) number) (bytesFrom (suc i) (drop (suc i) list))));
+    ends = rw (e, p, q, ← sets-append) (rw (one-of list i h) at (w .ends));
     size = ap length q ∙ length-sets now next (bytesOf (i % 5) number) ∙ w .size;
   }
+
+  -- a kind has room where all numbers have, and goes out
+  pub kind-room : i % 5 ≡ 0 → i < length list → at + length (bytesFrom 0 list) ≤ length before → next < length now
+  kind-room c h r = omega (arith, room-of h r, ap length (kind-bytes (i % 5) number c))
+
+  pub kind-rest : i % 5 ≡ 0 → i < length list → (j : ℕ) → j ≡ suc i → Rest list at before j (next + 1) (set now next (natAbs number))
+  kind-rest c h j e =
+      let b = kind-bytes (i % 5) number c in
+      rest-of h j (next + 1) (set now next (natAbs number)) e (rw b refl) (rw b refl)
+
+  -- and so a coordinate
+  pub coordinate-room : (i % 5 ≡ 0 → ⊥) → i < length list → at + length (bytesFrom 0 list) ≤ length before → next + length (spelled groups (stored number)) ≤ length now
+  coordinate-room c h r = omega (arith, room-of h r, ap length (coordinate-bytes (i % 5) number c))
+
+  pub coordinate-rest : (i % 5 ≡ 0 → ⊥) → i < length list → (j next′ : ℕ) (now′ : List ℕ) → j ≡ suc i
+      → next′ ≡ next + length (spelled groups (stored number)) → now′ ≡ sets now next (spelled groups (stored number)) → Rest list at before j next′ now′
+  coordinate-rest c h j next′ now′ e p q =
+      let b = coordinate-bytes (i % 5) number c in
+      rest-of h j next′ now′ e (rw b p) (rw b q)
 
   -- none is left
   pub no-rest : i ≡ length list → (next ≡ at + length (bytesFrom 0 list)) × (now ≡ sets before at (bytesFrom 0 list))

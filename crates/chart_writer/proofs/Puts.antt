@@ -11,7 +11,7 @@ use Rattle.chart_file.specs.Groups.{spelled}
 use Rattle.chart_file.proofs.Spelling.{spelled-last, spelled-more, rest-below, rest-due}
 
 -- A number takes some group; more than one exactly when more than seven bits are left.
-pub some-group : (k v : ℕ) → 0 < k → 0 < length (spelled k v)
+some-group : (k v : ℕ) → 0 < k → 0 < length (spelled k v)
 some-group zero v h = absurd (omega arith)
 some-group (suc k) v h = elim (decLt v 128) [
   | yes s ↦ rw (spelled-last k v s) (omega arith)

@@ -1,12 +1,11 @@
 // The chart file's writer: a list of numbers goes out as the file that the reader takes it from.
 ghost use mathlib.Core.Path.{_≡_};
-ghost use Prim.Native.Nat.{_+_, _≤_, _<_, _^_};
+ghost use Prim.Native.Nat.{_+_, _*_, _≤_, _<_, _^_};
 ghost use lib.ListN.{length};
 ghost use lib.Seq.{sets};
 ghost use Rattle.chart_file.specs.Groups.{spelled};
 ghost use Rattle.chart_file.specs.Coordinate.{stored as Coordinate·stored};
-ghost use Rattle.chart_file.specs.Format.{groups, bytesOf, bytesFrom};
-ghost use Rattle.chart_file.specs.Demand.{InRange};
+ghost use Rattle.chart_file.specs.Format.{groups, bytesFrom};
 ghost use Rattle.chart_writer.specs.Zeros.{groupsBy};
 ghost use Rattle.chart_writer.specs.Writing.{InRanges, writingOf, Writes};
 use chart_file::LONGEST;
@@ -23,16 +22,15 @@ fn stored(v: i32) -> u32
     2 * (v as u32)
 }
 
-// How many groups a stored number takes: seven of its binary digits each, and one group where it has none. Its digits are
+// How many groups of a stored number come before its last: seven of its binary digits stand in each, and its digits are
 // those below its leading zeros.
-fn group_count(v: u32) -> usize
-    ensures { λ r. ⌜ r ≡ groupsBy 32 v ⌝ }
+fn more_groups(v: u32) -> usize
+    ensures { λ r. ⌜ r + 1 ≡ groupsBy 32 v ⌝ }
 {
-    let digits = 32 - u32::leading_zeros(v);
-    if digits == 0 {
-        return 1;
+    if v == 0 {
+        return 0;
     }
-    ((digits + 6) / 7) as usize
+    ((31 - u32::leading_zeros(v)) / 7) as usize
 }
 
 // Writes the groups of a stored number at a place; the place after them.
@@ -40,7 +38,7 @@ fn put_groups(v: u32, out: &mut [u8], at: usize) -> usize
     requires { ⌜ (v < 128 ^ groups) × (at + length (spelled groups v) ≤ length (now out)) ⌝ }
     ensures { λ r. ⌜ (r ≡ at + length (spelled groups v)) × (now (out .exit) ≡ sets (now (out .entry)) at (spelled groups v)) ⌝ }
 {
-    let last = group_count(v) - 1;
+    let last = more_groups(v);
     let mut rest = v;
     for g in 0..last {
         out[at + g] = (128 + rest % 128) as u8;
@@ -50,27 +48,18 @@ fn put_groups(v: u32, out: &mut [u8], at: usize) -> usize
     at + last + 1
 }
 
-// Writes number c of a piece at a place; the place after it.
-fn put_number(c: usize, v: i32, out: &mut [u8], at: usize) -> usize
-    requires { ⌜ InRange c v × (at + length (bytesOf c v) ≤ length (now out)) ⌝ }
-    ensures { λ r. ⌜ (r ≡ at + length (bytesOf c v)) × (now (out .exit) ≡ sets (now (out .entry)) at (bytesOf c v)) ⌝ }
-{
-    if c == 0 {
-        out[at] = v as u8;
-        return at + 1;
-    }
-    put_groups(stored(v), out, at)
-}
-
-// Writes the numbers of a list from a place on; the place after them.
-fn put_numbers(list: &[i32], out: &mut [u8], at: usize) -> usize
-    requires { ⌜ InRanges (now list) × (at + length (bytesFrom 0 (now list)) ≤ length (now out)) ⌝ }
+// Writes the n pieces of a list from a place on; the place after them.
+fn put_pieces(list: &[i32], n: usize, out: &mut [u8], at: usize) -> usize
+    requires { ⌜ (length (now list) ≡ 5 * n) × InRanges (now list) × (at + length (bytesFrom 0 (now list)) ≤ length (now out)) ⌝ }
     ensures { λ r. ⌜ (r ≡ at + length (bytesFrom 0 (now (list .entry)))) × (now (out .exit) ≡ sets (now (out .entry)) at (bytesFrom 0 (now (list .entry)))) ⌝ }
 {
     let mut next = at;
-    let n = list.len();
-    for i in 0..n {
-        next = put_number(i % 5, list[i], out, next);
+    for p in 0..n {
+        out[next] = list[5 * p] as u8;
+        next += 1;
+        for c in 1..5 {
+            next = put_groups(stored(list[5 * p + c]), out, next);
+        }
     }
     next
 }
@@ -100,7 +89,7 @@ pub fn write(list: &[i32], out: &mut [u8]) -> Answer
         Verdict::Refused(number, place) => charts::refused(number, place),
         Verdict::Accepted(n) => {
             out[0] = n as u8;
-            charts::done(put_numbers(list, out, 1))
+            charts::done(put_pieces(list, n, out, 1))
         }
     }
 }

@@ -7,7 +7,7 @@ use lib.ListN.{length, set, length-set}
 use lib.Seq.{sets}
 use Rattle.chart_file.specs.Groups.{spelled}
 use Rattle.chart_file.specs.Format.{groups}
-use Rattle.chart_writer.proofs.Puts.{some-group, Left, all-left, one-more, last-one}
+use Rattle.chart_writer.proofs.Puts.{Left, all-left, one-more, last-one}
 use Rattle.chart_writer.proofs.Zeros.{counts-groups}
 use Rattle.chart_writer.proofs.put_groups.Statement.{statement}
 use Rattle.chart_writer.proofs.put_groups.Tie as tie
@@ -18,19 +18,16 @@ Inv-loop v out₀ at last rest₀ g₀ out rest g = (g ≤ last) × (last + 1 �
 abbrev μ-loop : tie.MeasureT-loop
 μ-loop v out₀ at last rest₀ g₀ out rest g = last - g
 
--- the count is that of the groups
-counted : (c : tie.After-group-count Inv-loop μ-loop) → c .group-count .result ≡ length (spelled groups (c .before .before .args .v))
+-- with the last one they are all the groups
+counted : (c : tie.After-more-groups Inv-loop μ-loop) → c .more-groups .result + 1 ≡ length (spelled groups (c .before .before .args .v))
 counted c =
     let st = c .before .before in
-    c .group-count .ensures ∙ counts-groups 32 groups (st .args .v) (st .fits .v .fits) (omega arith) (st .pre .0)
-
-some : (c : tie.After-group-count Inv-loop μ-loop) → 1 ≤ c .group-count .result
-some c = omega (arith, counted c, some-group groups (c .before .before .args .v) (omega arith))
+    c .more-groups .ensures ∙ counts-groups 32 groups (st .args .v) (st .fits .v .fits) (omega arith) (st .pre .0)
 
 loop-holds : tie.Need-loop-holds Inv-loop μ-loop
 loop-holds c =
     let a = c .before .before .args in
-    (omega arith, omega (arith, counted c, some c), all-left groups (a .v) (a .at) (a .out .now) (omega arith) (c .before .before .pre .0))
+    (omega arith, counted c, all-left groups (a .v) (a .at) (a .out .now) (omega arith) (c .before .before .pre .0))
 
 -- a group goes where there is room
 room : (c : tie.In-loop Inv-loop μ-loop) → c .before .before .before .before .args .at + c .before .loop .g < length (c .before .loop .out)
@@ -50,12 +47,12 @@ loop-again c =
 
 -- the last group is what is left, and goes where there is room
 last : (c : tie.After-loop Inv-loop μ-loop)
-    → let l = c .before in let st = l .before .before .before in let i = st .args .at + (l .before .group-count .result - 1) in
+    → let l = c .before in let st = l .before .before .before in let i = st .args .at + l .before .more-groups .result in
     (i < length (l .loop .out)) × (l .loop .rest < 128) × (set (l .loop .out) i (l .loop .rest) ≡ sets (st .args .out .now) (st .args .at) (spelled groups (st .args .v)))
 last c =
     let l = c .before in
     let a = l .before .before .before .args in
-    let e : l .loop .g ≡ l .before .group-count .result - 1 = omega arith in
+    let e : l .loop .g ≡ l .before .more-groups .result = omega arith in
     let t = last-one groups (a .v) (a .at) (a .out .now) (l .loop .g) (l .loop .rest) (l .loop .out) (l .loop .inv .2) (omega (arith, l .loop .inv .1)) in
     (omega (arith, l .loop .inv .1, l .loop .inv .2 .size, l .before .before .before .pre .1), t .0, rw e at (t .1))
 
@@ -75,7 +72,7 @@ same-length : tie.Need-same-length Inv-loop μ-loop
 same-length c = length-set (c .before .loop .out) _ _ ∙ c .before .loop .inv .2 .size
 
 returns : tie.Need-returns Inv-loop μ-loop
-returns c = (omega (arith, counted (c .before .before), some (c .before .before)), last c .2)
+returns c = (omega (arith, counted (c .before .before)), last c .2)
 
 pub put-groups-spec : {M : Type 1} → statement M
 put-groups-spec =
@@ -84,7 +81,6 @@ put-groups-spec =
     Inv-loop
     μ-loop
     (λ c κs. search needs)
-    some
     loop-holds
     (λ c. search needs)
     (λ c. search needs)

@@ -8,7 +8,7 @@ use Rattle.charts.specs.declared.Verdict.the-variants.{Accepted}
 use Rattle.charts.proofs.Accepted.{accepted-most}
 use Rattle.chart_file.specs.Format.{fileOf}
 use Rattle.chart_writer.specs.Writing.{writingOf}
-use Rattle.chart_writer.proofs.Outcomes.{goes, writes-refused, writes-done}
+use Rattle.chart_writer.proofs.Outcomes.{accepted-fives, goes, writes-refused, writes-done}
 use Rattle.chart_writer.proofs.write.Statement.{statement}
 use Rattle.chart_writer.proofs.write.Tie as tie
 
@@ -27,12 +27,12 @@ cast-out c =
 slice-write-out : tie.Need-slice-write-out
 slice-write-out c = let a = start c .args in omega (arith, goes (a .list .now) (a .out .now) _ (ahead c) .room)
 
-put-numbers-requires : tie.Need-put-numbers-requires
+put-pieces-requires : tie.Need-put-pieces-requires
 unfolding fileOf
-put-numbers-requires c κs =
+put-pieces-requires c κs =
     let a = start (c .before) .args in
     let g = goes (a .list .now) (a .out .now) _ (ahead (c .before)) in
-    (g .ranges, simp length-set (omega (arith, g .fits)))
+    (accepted-fives (a .list .now) _ (g .accepted), g .ranges, simp length-set (omega (arith, g .fits)))
 
 returns : tie.Need-returns
 returns c =
@@ -40,14 +40,14 @@ returns c =
     writes-refused (s .list .now) (s .out .now) (c .refused .result) _ _ (sym (c .before .before .before .before .writing-of .ensures) ∙ c .before .before .number .given .1) (c .refused .ensures)
 
 same-length : tie.Need-same-length
-same-length c = ap length (c .before .before .before .put-numbers .ensures .1) ∙ simp (length-sets, length-set)
+same-length c = ap length (c .before .before .before .put-pieces .ensures .1) ∙ simp (length-sets, length-set)
 
 returns-2 : tie.Need-returns-2
 returns-2 c =
     let p = c .before .before .before in
     let a = p .before .before in
     let s = start a .args in
-    writes-done (s .list .now) (s .out .now) (c .done .result) _ _ _ (ahead a) (c .done .ensures) (p .put-numbers .ensures .0) (p .put-numbers .ensures .1)
+    writes-done (s .list .now) (s .out .now) (c .done .result) _ _ _ (ahead a) (c .done .ensures) (p .put-pieces .ensures .0) (p .put-pieces .ensures .1)
 
 pub write-spec : {M : Type 1} → statement M
 write-spec =
@@ -59,7 +59,7 @@ write-spec =
     (λ c. search needs)
     cast-out
     slice-write-out
-    put-numbers-requires
+    put-pieces-requires
     (λ c κs. search needs)
     returns
     same-length
