@@ -2,7 +2,7 @@
 use mathlib.Core.Path.{_≡_, refl, ap, _∙_}
 use mathlib.Core.List.{List}
 use Prim.Native.Nat.{ℕ, zero, suc, _+_, _/_, _%_, _^_, _≤_, _<_}
-use native.Mathlib.Nat.{add-zero}
+use native.Mathlib.Numerals.{add-one}
 use native.Mathlib.Decide.{decLt}
 use native.Mathlib.Omega.{arith}
 use lib.ListN.{length, set, length-set}
@@ -32,41 +32,40 @@ one-left k v b h = elim (decLt v 128) [
       absurd (omega (arith, h, ap length (spelled-more k v g′), some-group k (v / 128) (rest-due k v g′ b)))
 ]
 
--- g of the groups of v have gone into `before` from a place on, which made it `now`; `rest` is still to go, in at most
--- 1 + `most` groups
-pub record Left (k v at : ℕ) (before : List ℕ) (g rest : ℕ) (now : List ℕ) : Type 0 where
+-- groups of v have gone into `before` from a place on, up to place i, which made it `now`; `rest` is still to go there, in
+-- at most 1 + `most` groups
+pub record Left (k v at : ℕ) (before : List ℕ) (i rest : ℕ) (now : List ℕ) : Type 0 where
   pub most : ℕ
   pub below : rest < 128 ^ suc most
-  pub counted : g + length (spelled (suc most) rest) ≡ length (spelled k v)
-  pub ends : sets now (at + g) (spelled (suc most) rest) ≡ sets before at (spelled k v)
+  pub counted : i + length (spelled (suc most) rest) ≡ at + length (spelled k v)
+  pub ends : sets now i (spelled (suc most) rest) ≡ sets before at (spelled k v)
   pub size : length now ≡ length before
 
-pub all-left : (k v at : ℕ) (before : List ℕ) → 0 < k → v < 128 ^ k → Left k v at before 0 v before
+pub all-left : (k v at : ℕ) (before : List ℕ) → 0 < k → v < 128 ^ k → Left k v at before at v before
 all-left zero v at before p b = absurd (omega arith)
-all-left (suc k) v at before p b = record { most = k; below = b; counted = omega arith; ends = ap (λ (i : ℕ). sets before i (spelled (suc k) v)) (add-zero at); size = refl }
+all-left (suc k) v at before p b = record { most = k; below = b; counted = refl; ends = refl; size = refl }
 
-module _ (k v at : ℕ) (before : List ℕ) (g rest : ℕ) (now : List ℕ) (l : Left k v at before g rest now) where
+module _ (k v at : ℕ) (before : List ℕ) (i rest : ℕ) (now : List ℕ) (l : Left k v at before i rest now) where
   -- a group that is not the last
-  pub one-more : g + 1 < length (spelled k v) → Left k v at before (g + 1) (rest / 128) (set now (at + g) (128 + rest % 128))
+  pub one-more : i + 1 < at + length (spelled k v) → Left k v at before (i + 1) (rest / 128) (set now i (128 + rest % 128))
   one-more h = step (l .most) (l .below) (l .counted) (l .ends)
     where
-      step : (m : ℕ) → rest < 128 ^ suc m → g + length (spelled (suc m) rest) ≡ length (spelled k v)
-          → sets now (at + g) (spelled (suc m) rest) ≡ sets before at (spelled k v)
-          → Left k v at before (g + 1) (rest / 128) (set now (at + g) (128 + rest % 128))
+      step : (m : ℕ) → rest < 128 ^ suc m → i + length (spelled (suc m) rest) ≡ at + length (spelled k v)
+          → sets now i (spelled (suc m) rest) ≡ sets before at (spelled k v)
+          → Left k v at before (i + 1) (rest / 128) (set now i (128 + rest % 128))
       step zero b c e = absurd (omega (arith, rest-due zero rest (more-left zero rest (omega arith)) b))
       step (suc m) b c e =
           let q = more-left (suc m) rest (omega arith) in
-          let z : at + (g + 1) ≡ suc (at + g) = omega arith in
           record {
             most = m;
             below = rest-below (suc m) rest b;
             counted = omega (arith, c, ap length (spelled-more (suc m) rest q));
-            ends = rw z (rw (spelled-more (suc m) rest q) at e);
-            size = length-set now (at + g) (128 + rest % 128) ∙ l .size;
+            ends = rw (add-one i) (rw (spelled-more (suc m) rest q) at e);
+            size = length-set now i (128 + rest % 128) ∙ l .size;
           }
 
   -- the last group is what is left
-  pub last-one : g + 1 ≡ length (spelled k v) → (rest < 128) × (set now (at + g) rest ≡ sets before at (spelled k v))
+  pub last-one : i + 1 ≡ at + length (spelled k v) → (rest < 128) × (set now i rest ≡ sets before at (spelled k v))
   last-one h =
       let s = one-left (l .most) rest (l .below) (omega (arith, l .counted)) in
       (s, rw (spelled-last (l .most) rest s) at (l .ends))

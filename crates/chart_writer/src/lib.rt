@@ -38,14 +38,14 @@ fn put_groups(v: u32, out: &mut [u8], at: usize) -> usize
     requires { ⌜ (v < 128 ^ groups) × (at + length (spelled groups v) ≤ length (now out)) ⌝ }
     ensures { λ r. ⌜ (r ≡ at + length (spelled groups v)) × (now (out .exit) ≡ sets (now (out .entry)) at (spelled groups v)) ⌝ }
 {
-    let last = more_groups(v);
+    let last = at + more_groups(v);
     let mut rest = v;
-    for g in 0..last {
-        out[at + g] = (128 + rest % 128) as u8;
+    for i in at..last {
+        out[i] = (128 + rest % 128) as u8;
         rest /= 128;
     }
-    out[at + last] = rest as u8;
-    at + last + 1
+    out[last] = rest as u8;
+    last + 1
 }
 
 // Writes the n pieces of a list from a place on; the place after them.
