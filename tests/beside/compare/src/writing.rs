@@ -60,12 +60,19 @@ fn written(list: &[i32]) -> Vec<u8> {
   bytes
 }
 
-/// A line for each chart: the file that the library writes, in hexadecimal digits, and the chart's numbers.
+/// A line for each chart: the file that the library writes, which must be the comparison's own, in hexadecimal digits, and
+/// the chart's numbers.
 pub fn print(charts: impl Iterator<Item = Chart>) -> io::Result<()> {
   let mut out = io::BufWriter::new(io::stdout().lock());
   for chart in charts {
     let list = numbers(&chart);
-    let digits: String = written(&list).iter().map(|b| format!("{b:02x}")).collect();
+    let file = written(&list);
+    if file != file::write(&chart) {
+      return Err(io::Error::other(format!(
+        "the library writes {list:?} as {file:02x?}"
+      )));
+    }
+    let digits: String = file.iter().map(|b| format!("{b:02x}")).collect();
     let numbers: String = list.iter().map(|v| format!(" {v}")).collect();
     writeln!(out, "{digits}{numbers}")?;
   }
