@@ -17,8 +17,11 @@ by-seven : (z : ℕ) → z ≤ 31 → (31 - z) / 7 + 1 ≡ groupsOf (32 - z)
 unfolding groupsOf
 by-seven z h = rw (ne-eqb (32 - z) 0 (λ e. omega arith)) (omega arith)
 
+digit : (c : tie.Else1) → leadingZeros 32 (c .before .args .v) ≤ 31
+digit c = some-digit (c .before .args .v) (c .before .fits .v .fits) (c .if1 .left)
+
 sub-result : tie.Need-sub-result
-sub-result c = some-digit (c .before .args .v) (c .before .fits .v .fits) (c .if1 .left)
+sub-result c = omega (arith, digit c)
 
 returns : tie.Need-returns
 unfolding groupsBy groupsOf
@@ -26,7 +29,7 @@ returns c = rw (c .if1 .taken, leading-of-zero)
 
 returns-2 : tie.Need-returns-2
 unfolding groupsBy
-returns-2 c = by-seven _ (sub-result c)
+returns-2 c = by-seven (leadingZeros 32 (c .before .args .v)) (digit c)
 
 pub more-groups-spec : {M : Type 1} → statement M
 more-groups-spec = tie.close (tie.spec returns sub-result (λ c. search needs) returns-2)
