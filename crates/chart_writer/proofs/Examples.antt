@@ -1,4 +1,4 @@
--- The groups of numbers at powers of 128, and the file of document 01's two pieces, computed.
+-- The groups of numbers at powers of 128, and the file of the scope's two pieces, computed.
 use mathlib.Core.Path.{_≡_, refl}
 use mathlib.Core.List.{[], _∷_}
 use lib.IntN.{pos, negsuc}

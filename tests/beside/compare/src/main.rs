@@ -1,6 +1,6 @@
 //! Holds the published Rust, this library and a plain model against each other, chart by chart.
 //!
-//!   compare gate               the fixed charts
+//!   compare gate [SHARE]       the fixed charts, or of those families that have thousands one chart in SHARE
 //!   compare long SEED COUNT    those kept by hand, and COUNT random charts of each temper from SEED
 //!   compare written            the charts of the gate, each with the file that the library writes
 //!   compare record FOLDER      writes the Rust's answers on a fixed sample
@@ -47,6 +47,7 @@ use charts::Random;
 
 const GATE_SEED: u64 = 1;
 const GATE_FILES: usize = 20_000;
+const GRID_PAIR: &str = "grid-pair";
 
 /// Charts of one temper: how many, the one of each index, and what is compared on each.
 struct Family {
@@ -68,7 +69,11 @@ fn main() -> ExitCode {
   let words: Vec<String> = std::env::args().skip(1).collect();
   let words: Vec<&str> = words.iter().map(String::as_str).collect();
   let (families, seed, files) = match words[..] {
-    ["gate"] => (gate(), GATE_SEED, GATE_FILES),
+    ["gate"] => (gate(1), GATE_SEED, GATE_FILES),
+    ["gate", share] => match share.parse() {
+      Ok(share) if share > 0 => (gate(share), GATE_SEED, GATE_FILES / share),
+      _ => return usage(),
+    },
     ["long", seed, count] => match (seed.parse(), count.parse()) {
       (Ok(seed), Ok(count)) => (long(seed, count), seed, count),
       _ => return usage(),
@@ -112,7 +117,7 @@ fn main() -> ExitCode {
 
 fn usage() -> ExitCode {
   eprintln!(
-    "usage: compare gate | long SEED COUNT | written | record FOLDER | listing FILE | bench FOLDER"
+    "usage: compare gate [SHARE] | long SEED COUNT | written | record FOLDER | listing FILE | bench FOLDER"
   );
   ExitCode::from(2)
 }
@@ -127,24 +132,44 @@ fn written(outcome: std::io::Result<()>) -> ExitCode {
   }
 }
 
-fn gate() -> Vec<Family> {
-  let mut families = whole();
-  families.insert(2, grid_pairs());
-  families
+fn gate(share: usize) -> Vec<Family> {
+  vec![
+    kept(),
+    thinned(tiny(), share),
+    thinned(grid_pairs(), share),
+    thinned(
+      random("degenerate", GATE_SEED, 17_000, charts::degenerate),
+      share,
+    ),
+    thinned(random("extreme", GATE_SEED, 3_000, charts::extreme), share),
+    thinned(
+      random("near-tied", GATE_SEED, 2_000, charts::near_ties),
+      share,
+    ),
+    thinned(
+      random("half-way", GATE_SEED, 2_000, charts::near_halves),
+      share,
+    ),
+    random("any-size", GATE_SEED, 300, charts::any_size),
+    random("full-size", GATE_SEED, 1_000, charts::full_size),
+  ]
 }
 
 /// Those of the gate on which everything is compared.
 fn whole() -> Vec<Family> {
-  vec![
-    kept(),
-    tiny(),
-    random("degenerate", GATE_SEED, 17_000, charts::degenerate),
-    random("extreme", GATE_SEED, 3_000, charts::extreme),
-    random("near-tied", GATE_SEED, 2_000, charts::near_ties),
-    random("half-way", GATE_SEED, 2_000, charts::near_halves),
-    random("any-size", GATE_SEED, 300, charts::any_size),
-    random("full-size", GATE_SEED, 1_000, charts::full_size),
-  ]
+  let mut families = gate(1);
+  families.retain(|family| family.name != GRID_PAIR);
+  families
+}
+
+/// One chart in `share` of a family.
+fn thinned(family: Family, share: usize) -> Family {
+  let chart = family.chart;
+  Family {
+    count: family.count.div_ceil(share),
+    chart: Box::new(move |i| chart(share * i)),
+    ..family
+  }
 }
 
 fn long(seed: u64, count: usize) -> Vec<Family> {
@@ -180,7 +205,7 @@ fn tiny() -> Family {
 
 fn grid_pairs() -> Family {
   Family {
-    name: "grid-pair",
+    name: GRID_PAIR,
     count: charts::GRID_PAIRS,
     chart: Box::new(charts::grid_pair),
     check: case::check_meetings,
