@@ -33,7 +33,7 @@ fn files() {
     ),
   ];
   for (file, fault, place, told) in wrong {
-    refused_file(file, LIST_ROOM, fault, place, told);
+    refused_file(file, LIST_ROOM, fault, place, &told);
   }
   for room in [0, LIST_ROOM - 1] {
     refused_file(&[0], room, Fault::Room, 0, ROOM);
