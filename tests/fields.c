@@ -71,6 +71,39 @@ static void answers_of_read(void) {
     CHECK(memcmp(list, numbers, sizeof numbers) == 0);
 }
 
+static void answers_of_write(void) {
+    static const uint8_t written[] = {2, 3, 0, 0, 6, 12, 3, 0, 10, 10, 0};
+    static uint8_t file[MIRTALUGHE_LONGEST_FILE + 1];
+    memset(file, KEPT, sizeof file);
+    mirtalughe_answer write = mirtalughe_write(crossing, LENGTH(crossing), file, MIRTALUGHE_LONGEST_FILE);
+    CHECK(write.number == MIRTALUGHE_DONE);
+    CHECK(write.place == 0);
+    CHECK(write.count == sizeof written);
+    CHECK(memcmp(file, written, sizeof written) == 0);
+    CHECK(file[sizeof written] == KEPT);
+
+    memset(file, KEPT, sizeof file);
+    static const struct {
+        const int32_t *list;
+        size_t length, lent;
+        mirtalughe_refusal number;
+        size_t place;
+    } wrongs[] = {
+        {kind, LENGTH(kind), 0, MIRTALUGHE_KIND, 1},
+        {coordinate, LENGTH(coordinate), MIRTALUGHE_LONGEST_FILE, MIRTALUGHE_COORDINATE, 1},
+        {no_length, LENGTH(no_length), MIRTALUGHE_LONGEST_FILE, MIRTALUGHE_NO_LENGTH, 1},
+        {crossing, LENGTH(crossing) - 1, MIRTALUGHE_LONGEST_FILE, MIRTALUGHE_LIST_LENGTH, 0},
+        {crossing, LENGTH(crossing), MIRTALUGHE_LONGEST_FILE - 1, MIRTALUGHE_ROOM, 0},
+    };
+    for (size_t i = 0; i < LENGTH(wrongs); i++) {
+        mirtalughe_answer refused = mirtalughe_write(wrongs[i].list, wrongs[i].length, file, wrongs[i].lent);
+        CHECK(refused.number == wrongs[i].number);
+        CHECK(refused.place == wrongs[i].place);
+        CHECK(refused.count == 0);
+    }
+    for (size_t i = 0; i < sizeof file; i++) CHECK(file[i] == KEPT);
+}
+
 static void answers_of_meeting(void) {
     mirtalughe_met met = mirtalughe_meeting(overlap, MIRTALUGHE_TWO_PIECES);
     CHECK(met.number == MIRTALUGHE_DONE);
@@ -271,6 +304,7 @@ static void null(void) {
 
 int main(void) {
     answers_of_read();
+    answers_of_write();
     answers_of_meeting();
     answers_of_place();
     answers_of_all_pairs();

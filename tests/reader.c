@@ -1,6 +1,6 @@
 /* Holds mirtalughe_read to a reader written from docs/CHART.md alone, on so many files from a seed, the same on every run:
    files of charts as they are, cut, longer and with bytes changed, and bytes of few values. The answer and every lent number
-   must be equal. tests/linked runs it; by hand, longer and from another seed:
+   must be equal, and what is read must be written by mirtalughe_write as it was. tests/linked runs it; by hand, longer and from another seed:
 
      target/linked/reader 10000000 7 */
 #include <stdio.h>
@@ -109,6 +109,12 @@ static size_t any_file(uint8_t *file) {
     return size;
 }
 
+static bool written_again(const uint8_t *file, size_t size, const int32_t *list, size_t pieces) {
+    static uint8_t again[MIRTALUGHE_LONGEST_FILE];
+    mirtalughe_answer write = mirtalughe_write(list, MIRTALUGHE_PIECE_NUMBERS * pieces, again, sizeof again);
+    return write.number == MIRTALUGHE_DONE && write.count == size && memcmp(file, again, size) == 0;
+}
+
 int main(int words, char **word) {
     static const size_t rooms[] = {ROOM, ROOM, ROOM, ROOM, ROOM, ROOM - 1, MOST_LENT, 0};
     static uint8_t file[SIZE];
@@ -124,6 +130,10 @@ int main(int words, char **word) {
                    b.number, b.place, b.count);
             for (size_t k = 0; k < size; k++) printf(" %02x", file[k]);
             puts("");
+            return 1;
+        }
+        if (b.number == MIRTALUGHE_DONE && !written_again(file, size, theirs, b.count)) {
+            printf("reader: file %ld is not written again as it was\n", i);
             return 1;
         }
         told[b.number]++;

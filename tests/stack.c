@@ -11,7 +11,8 @@ enum { ROOM = 1 << 18, MOST = 1 << 16, PAINT = 0xA5 };
 static _Alignas(64) unsigned char stack[ROOM];
 static ucontext_t host, guest;
 static int32_t list[MIRTALUGHE_LIST_ROOM];
-static uint8_t file[MIRTALUGHE_LONGEST_FILE], pairs[MIRTALUGHE_PAIRS_ROOM(MIRTALUGHE_MOST_PIECES)];
+static uint8_t file[MIRTALUGHE_LONGEST_FILE], again[MIRTALUGHE_LONGEST_FILE];
+static uint8_t pairs[MIRTALUGHE_PAIRS_ROOM(MIRTALUGHE_MOST_PIECES)];
 static int wrong;
 
 static void nothing(void) {}
@@ -23,6 +24,10 @@ static void compare_points(void) {
 static void orient(void) { wrong |= mirtalughe_orient(0, 0, 4, 0, 4, 4) != 1; }
 
 static void read(void) { wrong |= mirtalughe_read(file, sizeof file, list, MIRTALUGHE_LIST_ROOM).count != MIRTALUGHE_MOST_PIECES; }
+
+static void write(void) {
+    wrong |= mirtalughe_write(list, MIRTALUGHE_LIST_ROOM, again, sizeof again).count != sizeof again;
+}
 
 static void meeting(void) { wrong |= mirtalughe_meeting(list, MIRTALUGHE_TWO_PIECES).meets != MIRTALUGHE_CROSSING; }
 
@@ -74,7 +79,7 @@ int main(void) {
     } calls[] = {
         {"mirtalughe_read", read},       {"mirtalughe_orient", orient}, {"mirtalughe_compare_points", compare_points},
         {"mirtalughe_meeting", meeting}, {"mirtalughe_place", place},   {"mirtalughe_all_pairs", all_pairs},
-        {"mirtalughe_sweep", sweep},
+        {"mirtalughe_sweep", sweep},     {"mirtalughe_write", write},
     };
     largest();
     size_t none = taken(nothing), most = 0;

@@ -44,6 +44,17 @@ chart_file/specs/Reading:lentReading LentExactly
 """,
     ),
     (
+        "1, files written",
+        "chart_writer/specs/Demand:RefusesExactly,RefusesWhole,DoneExactly,WritesFewest,ReadsWritten,WritesRead",
+        LISTS
+        + """
+chart_file/specs/Reading:readingOf ReadsExactly
+chart_file/specs/Reading:lentReading LentExactly
+chart_writer/specs/Writing:writingOf RefusesExactly
+chart_writer/specs/Writing:writtenBy what is read
+""",
+    ),
+    (
         "1, the sweep",
         "bentley_ottmann/specs/Demand:RefusesExactly,RefusesWhole,DoneExactly",
         """

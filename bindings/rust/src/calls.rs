@@ -8,6 +8,7 @@ unsafe extern "C" {
   pub safe fn mirtalughe_orient(x1: i16, y1: i16, x2: i16, y2: i16, x3: i16, y3: i16) -> i8;
   pub safe fn mirtalughe_compare_points(x1: i64, y1: i64, d1: u64, x2: i64, y2: i64, d2: u64) -> i8;
   pub fn mirtalughe_read(file: *const u8, size: usize, list: *mut i32, lent: usize) -> Answer;
+  pub fn mirtalughe_write(list: *const i32, length: usize, file: *mut u8, lent: usize) -> Answer;
   pub fn mirtalughe_meeting(list: *const i32, length: usize) -> Met;
   pub fn mirtalughe_place(list: *const i32, length: usize) -> Placed;
   pub fn mirtalughe_all_pairs(list: *const i32, length: usize, pairs: *mut u8, lent: usize) -> Answer;

@@ -45,7 +45,7 @@ pub const PIECE_NUMBERS: usize = number(env!("MIRTALUGHE_PIECE_NUMBERS"));
 /// How many numbers are lent to [`read`] at least.
 pub const LIST_ROOM: usize = PIECE_NUMBERS * MOST_PIECES;
 
-/// The bytes of the longest chart file.
+/// The bytes of the longest chart file. At least as many are lent to [`write`].
 pub const LONGEST_FILE: usize = 1 + 13 * MOST_PIECES;
 
 /// The most pairs of a chart.
@@ -145,6 +145,15 @@ pub fn read<'a>(file: &[u8], lent: &'a mut [i32]) -> Result<&'a [Piece], Refusal
   let answer = unsafe { calls::mirtalughe_read(file.as_ptr(), file.len(), lent.as_mut_ptr(), lent.len()) };
   let count = answer.checked(Given::File)?;
   Ok(&lent.as_chunks().0[..count])
+}
+
+/// Writes a chart's file into lent bytes and returns it. At least [`LONGEST_FILE`] bytes are to be lent; those past the file
+/// keep their values.
+pub fn write<'a>(list: &[i32], lent: &'a mut [u8]) -> Result<&'a [u8], Refusal> {
+  // SAFETY: both pointers are good for their lengths, and the lent bytes are borrowed alone.
+  let answer = unsafe { calls::mirtalughe_write(list.as_ptr(), list.len(), lent.as_mut_ptr(), lent.len()) };
+  let count = answer.checked(Given::List)?;
+  Ok(&lent[..count])
 }
 
 /// How the two pieces of ten numbers meet, the first one asking.

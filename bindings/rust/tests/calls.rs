@@ -47,6 +47,30 @@ fn reading() {
   assert_eq!(read(&[0], &mut lent), Ok(&[][..]));
 }
 
+/// Numbers at the powers of 128, on both sides of zero, and the widest ones.
+#[test]
+fn writing() {
+  let file = [2, 3, 0, 0, 8, 8, 3, 0, 8, 8, 0];
+  let mut lent = [7; LONGEST_FILE + 1];
+  assert_eq!(write(&FIRST, &mut lent), Ok(&file[..]));
+  assert!(lent[11..].iter().all(|b| *b == 7));
+  assert_eq!(write(&[], &mut lent), Ok(&[0][..]));
+  let edges = two([3, 63, -64, 64, -65], [0, 8191, -8192, 8192, -8193]);
+  let groups = [2, 3, 0x7E, 0x7F, 0x80, 1, 0x81, 1, 0, 0xFE, 0x7F, 0xFF, 0x7F, 0x80, 0x80, 1, 0x81, 0x80, 1];
+  assert_eq!(write(&edges, &mut lent), Ok(&groups[..]));
+  let widest = [[3, LIMIT, -1, -LIMIT, 0]; MOST_PIECES].concat();
+  let front = [MOST_PIECES as u8, 3, 0xFE, 0xFF, 3, 1, 0xFD, 0xFF, 3, 0];
+  assert_eq!(write(&widest, &mut lent).unwrap()[..10], front);
+}
+
+#[test]
+fn there_and_back() {
+  let (mut list, mut lent) = ([0; LIST_ROOM], [0; LONGEST_FILE]);
+  let file = example("booster_fan.chart");
+  let pieces = read(&file, &mut list).unwrap();
+  assert_eq!(write(pieces.as_flattened(), &mut lent), Ok(&file[..]));
+}
+
 #[test]
 fn meetings() {
   assert_eq!(meeting(&FIRST), Ok(Meeting::Crossing));

@@ -87,6 +87,27 @@ fn lists() {
   }
 }
 
+#[test]
+fn writing() {
+  for (list, fault, place, told) in wrong_lists() {
+    refused_writing(&list, 0, fault, place, told);
+    refused_writing(&list, LONGEST_FILE, fault, place, told);
+  }
+  let many = format!("refused 3: count above {MOST_PIECES}");
+  refused_writing(&[SOUND; MOST_PIECES + 1].concat(), LONGEST_FILE, Fault::Count, 0, &many);
+  for count in [0, 1, MOST_PIECES] {
+    refused_writing(&[SOUND; MOST_PIECES][..count].concat(), LONGEST_FILE - 1, Fault::Room, 0, ROOM);
+  }
+}
+
+fn refused_writing(list: &[i32], room: usize, fault: Fault, place: usize, told: &str) {
+  let mut lent = vec![9; room];
+  let refused = write(list, &mut lent).unwrap_err();
+  assert_eq!(refused, Refusal { fault, place, given: Given::List }, "{list:?}");
+  assert_eq!(refused.to_string(), told);
+  assert!(lent.iter().all(|b| *b == 9));
+}
+
 fn refused_list(list: &[i32], room: usize, fault: Fault, place: usize, told: &str) {
   let mut lent = vec![9; room];
   let refused = all_pairs(list, &mut lent).unwrap_err();

@@ -43,7 +43,7 @@ extern "C" {
 /* Numbers to lend to mirtalughe_read, whatever the file: those of the largest chart. */
 #define MIRTALUGHE_LIST_ROOM (MIRTALUGHE_PIECE_NUMBERS * MIRTALUGHE_MOST_PIECES)
 
-/* Bytes of the longest chart file: the count, and of each piece its kind and four coordinates of three bytes. */
+/* Bytes of the longest chart file, to lend to mirtalughe_write whatever the chart: the count, and of each piece its kind and four coordinates of three bytes. */
 #define MIRTALUGHE_LONGEST_FILE (1 + 13 * MIRTALUGHE_MOST_PIECES)
 
 /* Bytes to lend for the pairs of n pieces, two a pair; n is evaluated twice. */
@@ -82,7 +82,7 @@ typedef enum {
 
 /* ---- answers. `number` is one of mirtalughe_refusal, and `place` a byte of the file or the number of a piece. */
 
-/* `count` pieces read, or pairs listed. */
+/* `count` pieces read, bytes written, or pairs listed. */
 typedef struct {
     uint8_t number;
     size_t place;
@@ -148,6 +148,10 @@ int8_t mirtalughe_compare_points(int64_t x1, int64_t y1, uint64_t d1, int64_t x2
 /* Reads a chart file into a lent list and returns the count of pieces. `lent` is at least MIRTALUGHE_LIST_ROOM,
    whatever the file. Numbers past the last piece keep their values. */
 mirtalughe_answer mirtalughe_read(const uint8_t *file, size_t size, int32_t *list, size_t lent);
+
+/* Writes a list's chart file into lent bytes and returns the count of them. `lent` is at least MIRTALUGHE_LONGEST_FILE,
+   whatever the chart. Bytes past the file keep their values. Reading what was written gives the list again. */
+mirtalughe_answer mirtalughe_write(const int32_t *list, size_t length, uint8_t *file, size_t lent);
 
 /* How the two pieces of a list meet, the first one asking; `length` is MIRTALUGHE_TWO_PIECES. */
 mirtalughe_met mirtalughe_meeting(const int32_t *list, size_t length);

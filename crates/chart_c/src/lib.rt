@@ -6,6 +6,7 @@ ghost use Rattle.fractions.specs.Point.{pointOrder};
 ghost use Rattle.charts.specs.Pair.{meetingOf};
 ghost use Rattle.place.specs.Pair.{placeAnswerOf};
 ghost use Rattle.chart_file.specs.Reading.{Reads};
+ghost use Rattle.chart_writer.specs.Writing.{Writes};
 ghost use Rattle.naive.specs.AllPairs.{allPairsOf, lentAfter};
 ghost use Rattle.bentley_ottmann.specs.Swept.{sweepOf};
 ghost use Rattle.bentley_ottmann.specs.Swept.{lentAfter as sweptAfter};
@@ -116,6 +117,14 @@ pub extern "C" fn mirtalughe_read(file: &[u8], list: &mut [i32]) -> Answer
     ensures { λ r. ⌜ Reads (now (file .entry)) (now (list .entry)) r (now (list .exit)) ⌝ }
 {
     chart_file::read(file, list)
+}
+
+// Writes a chart's file into lent bytes.
+#[no_mangle]
+pub extern "C" fn mirtalughe_write(list: &[i32], file: &mut [u8]) -> Answer
+    ensures { λ r. ⌜ Writes (now (list .entry)) (now (file .entry)) r (now (file .exit)) ⌝ }
+{
+    chart_writer::write(list, file)
 }
 
 fn end_of(e: EndPoint) -> End

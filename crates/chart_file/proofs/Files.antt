@@ -94,18 +94,22 @@ reads-file s b list at e =
     let n : q .0 ≡ length list / 5 = omega (arith, q .1) in
     (q .2 .file ∙ rw (append-nil, n), begins-sound s list (q .0) (q .1) (q .2) ∙ ap Accepted n)
 
+-- every number of a chart is in range
+pub chart-ranges : (list : List ℤ) (n : ℕ) → verdictOf list ≡ Accepted n → (j : ℕ) → j < length list → InRange (j % 5) (getD list j (pos 0))
+unfolding numberAt
+chart-ranges list n e j h =
+    let q = sound-row list n (refuses-exactly list (Accepted n) .0 e) in
+    let w = sound-begins list n (q .0) (q .1) (q .2) in
+    let d : 5 * (j / 5) + j % 5 ≡ j = omega arith in
+    subst (λ (k : ℕ). InRange (j % 5) (getD list k (pos 0))) d (w .ranges (j / 5) (j % 5) (omega arith) (omega arith))
+
 pub file-reads : FileReads
-unfolding fileOf numberAt
+unfolding fileOf
 file-reads list n e =
     let q = sound-row list n (refuses-exactly list (Accepted n) .0 e) in
     let w = sound-begins list n (q .0) (q .1) (q .2) in
-    let b : Bytes (fileOf list) = (omega (arith, q .0, q .1), list-bytes 0 list (λ j h. ranges-by w j h)) in
+    let b : Bytes (fileOf list) = (omega (arith, q .0, q .1), list-bytes 0 list (λ j h. rw zero-add (chart-ranges list n e j h))) in
     (b, reads-exactly (fileOf list) b (due list (placeOf list)) .1 (Due·chart n list (q .0) w))
-  where
-    ranges-by : Begins (fileOf list) n n list [] → (j : ℕ) → j < length list → InRange ((0 + j) % 5) (getD list j (pos 0))
-    ranges-by w j h =
-        let e : 5 * (j / 5) + j % 5 ≡ j = omega arith in
-        rw zero-add (subst (λ (k : ℕ). InRange (j % 5) (getD list k (pos 0))) e (w .ranges (j / 5) (j % 5) (omega arith) (omega arith)))
 
 pub reads-once : ReadsOnce
 reads-once s s′ b b′ list at at′ e e′ = reads-file s b list at e .0 ∙ sym (reads-file s′ b′ list at′ e′ .0)

@@ -6,7 +6,7 @@
 --   how a reading goes on, and stays refused      Steps
 --   what a file begins with                       Begun
 --   a reading and its row                         Files        reads-exactly, by Forth and Back
---   files and charts; the longest file            Files        reads-file, file-reads, reads-once; Longest
+--   files and charts; the longest file            Files        reads-file, file-reads, chart-ranges; Longest
 --   how much of an input decides its reading      Early        decided-early
 --   which numbers a file is refused with           Refusals     refused-few
 --   the count of pieces that were read            Counts       read-most

@@ -52,6 +52,10 @@ no-longer s b list at e =
     let q = chart-row s list at (reads-exactly s b (due list at) .0 e) in
     omega (arith, q .2 .few, ap length (q .2 .file), length-append (bytesFrom 0 list) [], list-length (q .0) 0 list (omega arith) (q .1))
 
+-- so is the file of a chart that the calls on lists accept
+pub file-no-longer : (list : List ℤ) (n : ℕ) → verdictOf list ≡ Accepted n → length (fileOf list) ≤ longest
+file-no-longer list n e = let f = file-reads list n e in no-longer (fileOf list) (f .0) list _ (f .1)
+
 -- n pieces of the widest coordinates
 widest : ℕ → List ℤ
 widest zero = []

@@ -29,13 +29,13 @@ unfolding spelled
 spelled-more k v h = rw (le-ltb _ _ h)
 
 -- What is left after a group lies below the next lower power, and where it is not zero another group is due.
-rest-below : (k v : ℕ) → v < 128 ^ suc k → v / 128 < 128 ^ k
+pub rest-below : (k v : ℕ) → v < 128 ^ suc k → v / 128 < 128 ^ k
 rest-below k v h = go (128 ^ k) (rw pow-suc at h)
   where
     go : (p : ℕ) → v < p * 128 → v / 128 < p
     go p h = omega arith
 
-rest-due : (k v : ℕ) → 128 ≤ v → v < 128 ^ suc k → 0 < k
+pub rest-due : (k v : ℕ) → 128 ≤ v → v < 128 ^ suc k → 0 < k
 rest-due zero v g h = omega arith
 rest-due (suc k) v g h = omega arith
 

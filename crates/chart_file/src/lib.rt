@@ -18,6 +18,9 @@ pub const NUMBERS: usize = 5 * MOST;
 // A number in at most so many groups of seven bits.
 const GROUPS: usize = 3;
 
+// The longest file: the count, and of each piece the kind and four coordinates.
+pub const LONGEST: usize = 1 + (1 + 4 * GROUPS) * MOST;
+
 // A coordinate in range is stored as at most twice charts::RANGE.
 const WIDEST: u32 = 2 * (charts::RANGE as u32);
 

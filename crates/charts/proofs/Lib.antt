@@ -1,8 +1,10 @@
 -- From another crate: `use Rattle.charts.proofs.FILE.{..}`.
 --   what is known of an accepted list              Accepted    accepted-most, pieces-as-given, pieces-have-length
---   the verdict where pairs are written down       Listing     listing-goes, listing-refused, listing-eight
+--   the verdict where room is lent, any need of it Lent        room-goes, room-refused, room-eight, room-accepted
+--   the same where pairs are written down          Listing     listing-goes, listing-refused, listing-eight
 --   room, n(n-1), without a product                Room        room-more, room-below, room-least
---   statements of specs/Demand                     Rows, Exactly, Listing, Ten, Accepted
+--   a run of stores                                Stores      sets-append, sets-front
+--   statements of specs/Demand                     Rows, Exactly, Lent, Listing, Ten, Accepted
 --   code: tests on signed numbers, casts           Numbers, Ranges
 pub mod Rows
 pub mod Numbers
@@ -11,7 +13,9 @@ pub mod Pieces
 pub mod Exactly
 pub mod Room
 pub mod Accepted
+pub mod Lent
 pub mod Listing
+pub mod Stores
 pub mod Ten
 pub mod Upright
 pub mod Once

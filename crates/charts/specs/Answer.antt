@@ -26,11 +26,11 @@ answerOf count (Refused number place) = refusedWith number place
 unfoldable pub room : ℕ → ℕ
 room n = n * (n - 1)
 
--- "then 8": "lent room too small", place zero
-abbrev pub thenRoom : ℕ → Verdict → Verdict
-thenRoom lent (Accepted n) = cond (ltb lent (room n)) (Refused 8 0) (Accepted n)
-thenRoom lent (Refused number place) = Refused number place
+-- "then 8": "lent room too small", place zero, where a chart of n pieces needs so much
+abbrev pub thenRoom : (ℕ → ℕ) → ℕ → Verdict → Verdict
+thenRoom need lent (Accepted n) = cond (ltb lent (need n)) (Refused 8 0) (Accepted n)
+thenRoom need lent (Refused number place) = Refused number place
 
 -- the verdict on a list of which the pairs go into so many lent bytes
 unfoldable pub listingOf : List ℤ → ℕ → Verdict
-listingOf list lent = thenRoom lent (verdictOf list)
+listingOf list lent = thenRoom room lent (verdictOf list)

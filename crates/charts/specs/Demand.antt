@@ -11,7 +11,7 @@ use Rattle.line_segment.specs.Piece.{pieceOf, HasLength}
 use Rattle.charts.specs.Fault.{range, faultOf}
 use Rattle.charts.specs.Chart.{most, numberAt, verdictOf}
 use Rattle.charts.specs.Piece.{pieceAt}
-use Rattle.charts.specs.Answer.{room, listingOf}
+use Rattle.charts.specs.Answer.{room, thenRoom, listingOf}
 use Rattle.charts.specs.Pair.{pairVerdictOf}
 use Rattle.charts.specs.declared.Verdict.{Verdict}
 use Rattle.charts.specs.declared.Verdict.the-variants.{Accepted, Refused}
@@ -65,12 +65,16 @@ module _ (list : List ℤ) where
     piece : (n : ℕ) → length list ≡ 5 * n → n ≤ most → (i k : ℕ) → i < n → Sound i → FaultOf i (suc k) → Due (Refused (suc k) i)
     done : (n : ℕ) → length list ≡ 5 * n → n ≤ most → Sound n → Due (Accepted n)
 
-  -- "then 8": the verdict that is due where the pairs go into so many lent bytes
-  pub data ListingDue (lent : ℕ) : Verdict → Type 0 where
-    refused : (k place : ℕ) → Due (Refused k place) → ListingDue lent (Refused k place)
+  -- "then 8": the verdict that is due where so much room is lent, and a chart of n pieces needs `need n`
+  pub data RoomDue (need : ℕ → ℕ) (lent : ℕ) : Verdict → Type 0 where
+    refused : (k place : ℕ) → Due (Refused k place) → RoomDue need lent (Refused k place)
     -- "8: lent room too small"
-    eight : (n : ℕ) → Due (Accepted n) → lent < room n → ListingDue lent (Refused 8 0)
-    listed : (n : ℕ) → Due (Accepted n) → room n ≤ lent → ListingDue lent (Accepted n)
+    eight : (n : ℕ) → Due (Accepted n) → lent < need n → RoomDue need lent (Refused 8 0)
+    roomy : (n : ℕ) → Due (Accepted n) → need n ≤ lent → RoomDue need lent (Accepted n)
+
+  -- where the pairs go into so many lent bytes
+  abbrev pub ListingDue : ℕ → Verdict → Type 0
+  ListingDue lent v = RoomDue room lent v
 
   -- "9: .. in a pair call, [the length] is not ten"
   pub data PairDue : Verdict → Type 0 where
@@ -79,6 +83,9 @@ module _ (list : List ℤ) where
 
 abbrev pub RefusesExactly : Type 0
 RefusesExactly = (list : List ℤ) (v : Verdict) → (verdictOf list ≡ v) ↔ Due list v
+
+abbrev pub RoomRefusesExactly : Type 0
+RoomRefusesExactly = (list : List ℤ) (need : ℕ → ℕ) (lent : ℕ) (v : Verdict) → (thenRoom need lent (verdictOf list) ≡ v) ↔ RoomDue list need lent v
 
 abbrev pub ListingRefusesExactly : Type 0
 ListingRefusesExactly = (list : List ℤ) (lent : ℕ) (v : Verdict) → (listingOf list lent ≡ v) ↔ ListingDue list lent v

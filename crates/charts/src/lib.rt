@@ -24,13 +24,13 @@ pub enum Verdict {
     Refused(u8, usize),
 }
 
-// What the reader of a file and the calls that list pairs return.
+// What the reader and the writer of a file and the calls that list pairs return.
 #[repr(C)]
 pub struct Answer {
     // 0 where the call is done, else the refusal
     pub number: u8,
     pub place: usize,
-    // of pieces read or of pairs listed, 0 where refused
+    // of pieces read, of bytes written or of pairs listed, 0 where refused
     pub count: usize,
 }
 

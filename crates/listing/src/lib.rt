@@ -16,7 +16,7 @@ const PAIRS: usize = MOST * (MOST - 1);
 pub const LONGEST: usize = 9 + 13 + PAIRS / 2 * 45 + 17;
 
 // The longest chart file and one byte more: so much of an input decides its listing.
-pub const DECIDING: usize = 1 + 13 * MOST + 1;
+pub const DECIDING: usize = chart_file::LONGEST + 1;
 
 // The text of an accepted list, swept to its end.
 fn put_chart(list: &[i32], text: &mut [u8]) -> usize

@@ -1,7 +1,7 @@
 -- From another crate: `use Rattle.naive.proofs.FILE.{..}`.
 --   the statements of specs/Demand                 Exactly     lists-exactly, lists-in-order, lists-once
 --   rows of pairs, for any test                    Rows, Listed    rows-more, rows-same, rows-say, rows-have
---   a run of stores                                Writes      sets-append, sets-over
+--   a run of stores from the start                 Writes      sets-over
 --   what sides say of two pieces                   Apart       beside-apart, across-meet
 --   inside: one turn of the loops, the array       Turns, Stored, Outcomes
 pub mod Rows

@@ -13,7 +13,8 @@ use Rattle.charts.specs.Answer.{room}
 use Rattle.charts.proofs.Room.{room-below}
 use Rattle.naive.specs.Pairs.{row, rows, bytes, over}
 use Rattle.naive.proofs.Rows.{bytes-append, bytes-length, row-none, row-yes, row-no, rows-none, rows-more, row-length, rows-length, rows-room}
-use Rattle.naive.proofs.Writes.{sets-append, sets-over}
+use Rattle.charts.proofs.Stores.{sets-append}
+use Rattle.naive.proofs.Writes.{sets-over}
 
 no-bytes : bytes [] ≡ []
 unfolding bytes

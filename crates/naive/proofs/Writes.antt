@@ -1,19 +1,13 @@
--- A run of stores, `sets`: one run after another, and a run from the start.
+-- A run of stores from the start.
 -- Assumes nothing.
-use mathlib.Core.Path.{_≡_, sym, ap, _∙_}
-use mathlib.Core.List.{List, [], _∷_, _++_}
-use Prim.Native.Nat.{ℕ, suc, _+_, _≤_}
-use native.Mathlib.Nat.{add-zero, zero-add, add-suc, suc-add}
-use lib.ListN.{length, drop, set}
-use lib.Seq.{sets, sets-eq}
+use mathlib.Core.Path.{_≡_}
+use mathlib.Core.List.{List}
+use Prim.Native.Nat.{ℕ, _≤_}
+use lib.ListN.{length}
+use lib.Seq.{sets}
+use Rattle.charts.proofs.Stores.{sets-front}
 use Rattle.naive.specs.Pairs.{over}
-
-pub sets-append : (l : List ℕ) (i : ℕ) (xs ys : List ℕ) → sets l i (xs ++ ys) ≡ sets (sets l i xs) (i + length xs) ys
-sets-append l i [] ys = ap (λ (k : ℕ). sets l k ys) (sym (add-zero i))
-sets-append l i (x ∷ xs) ys =
-    sets-append (set l i x) (suc i) xs ys
-    ∙ ap (λ (k : ℕ). sets (sets (set l i x) (suc i) xs) k ys) (suc-add i (length xs) ∙ sym (add-suc i (length xs)))
 
 pub sets-over : (l xs : List ℕ) → length xs ≤ length l → sets l 0 xs ≡ over xs l
 unfolding over
-sets-over l xs h = sets-eq xs l 0 (rw zero-add h) ∙ ap (λ (k : ℕ). xs ++ drop k l) (zero-add (length xs))
+sets-over = sets-front

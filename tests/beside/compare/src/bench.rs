@@ -1,4 +1,4 @@
-//! How long the library's calls take beside the Rust's, a plain C++ loop and CGAL, as three tables.
+//! How long the library's calls take beside the Rust's, a plain C++ loop and CGAL, as tables.
 
 use std::hint::black_box;
 use std::io::{Error, Result, Write};
@@ -10,7 +10,7 @@ use crate::answers::{Chart, LIMIT, MOST_PIECES, Point, is_upright};
 use crate::charts::{self, Random};
 use crate::original::{self, Original};
 use crate::refusals::numbers;
-use crate::{bench_sweep, library, model};
+use crate::{bench_sweep, file, files, library, model, writing};
 
 const SEED: u64 = 6;
 /// A time is that of the quickest of so many batches of calls.
@@ -35,6 +35,14 @@ pub fn print(programs: &Path) -> Result<()> {
   let charts = measured();
   for (name, chart) in &charts {
     pairs_row(name, chart, &programs.join("plain"))?;
+  }
+  println!();
+  println!("| chart | pieces | bytes | read, ns | write, ns | write / read |");
+  println!("|---|---|---|---|---|---|");
+  let largest = [("widest", files::widest())];
+  let full = charts.iter().filter(|(_, chart)| chart.len() == MOST_PIECES);
+  for (name, chart) in full.chain(&largest) {
+    file_row(name, chart)?;
   }
   println!();
   bench_sweep::print(&charts, programs)
@@ -100,6 +108,26 @@ fn pairs_row(name: &str, chart: &Chart, plain: &Path) -> Result<()> {
     .map(|r| format!("{r:.1}"))
     .join(" | ");
   println!("| {name} | {n} | {count} | {ms} | {ratios} |");
+  Ok(())
+}
+
+/// Reading the chart's file, and writing it.
+fn file_row(name: &str, chart: &Chart) -> Result<()> {
+  let file = file::write(chart);
+  let mut list = vec![0; file::ROOM];
+  let mut again = vec![0; writing::ROOM];
+  let read = least(BATCHES, 1_000, || {
+    black_box(library::read(black_box(&file), &mut list));
+  });
+  let list = numbers(chart);
+  let write = least(BATCHES, 1_000, || {
+    black_box(library::write(black_box(&list), &mut again));
+  });
+  if again[..file.len()] != file {
+    return Err(Error::other("the files differ"));
+  }
+  let (n, size, ratio) = (chart.len(), file.len(), write / read);
+  println!("| {name} | {n} | {size} | {read:.0} | {write:.0} | {ratio:.2} |");
   Ok(())
 }
 

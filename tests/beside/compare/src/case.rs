@@ -4,7 +4,7 @@ use std::fmt::Debug;
 
 use crate::answers::{Chart, Pair};
 use crate::original::Original;
-use crate::{file, half_line, naive, order, orient, place, refusals, segment, sweep};
+use crate::{file, half_line, naive, order, orient, place, refusals, segment, sweep, writing};
 
 pub struct Case {
   pub chart: Chart,
@@ -42,7 +42,8 @@ pub fn check(chart: &Chart) -> Result<(), String> {
   naive::compare(&case)?;
   sweep::compare(&case)?;
   refusals::compare(&case)?;
-  file::compare(&case)
+  file::compare(&case)?;
+  writing::compare(&case)
 }
 
 /// Compares how the pieces of a chart meet, and nothing else.

@@ -5,6 +5,7 @@ use crate::case::{Case, agree};
 use crate::charts::Random;
 use crate::library;
 use crate::refusals::numbers;
+use crate::writing;
 
 /// "under 320 numbers lent"
 pub const ROOM: usize = 5 * MOST_PIECES;
@@ -27,8 +28,8 @@ pub fn compare(case: &Case) -> Result<(), String> {
   Ok(())
 }
 
-/// The answer, and every number of the lent list.
-pub fn compare_reading(bytes: &[u8], lent: usize) -> Result<(), String> {
+/// The answer, and every number of the lent list. What is read is written again; whether anything was read.
+pub fn compare_reading(bytes: &[u8], lent: usize) -> Result<bool, String> {
   let mut list: Vec<i32> = (0..lent).map(|i| -7 - i as i32).collect();
   let mut expected = list.clone();
   let outcome = if lent < ROOM {
@@ -39,10 +40,15 @@ pub fn compare_reading(bytes: &[u8], lent: usize) -> Result<(), String> {
   if let Ok(chart) = &outcome {
     expected[..5 * chart.len()].copy_from_slice(&numbers(chart));
   }
+  let numbers = outcome.as_ref().ok().map(|chart| 5 * chart.len());
   let expected = (Answer::of(outcome.map(|chart| chart.len())), expected);
   let answer = library::read(bytes, &mut list);
   let call = || format!("reading the file {bytes:02x?} into {lent} numbers");
-  agree(call, "model", expected, "library", (answer, list))
+  agree(call, "model", &expected, "library", &(answer, list))?;
+  match numbers {
+    Some(read) => writing::compare_again(bytes, &expected.1[..read]).map(|()| true),
+    None => Ok(false),
+  }
 }
 
 /// The file with a few bytes changed at random, the same ones every time.

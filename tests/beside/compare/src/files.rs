@@ -15,21 +15,22 @@ const TELLING: [u8; 12] = [
 /// What comes before telling bytes: nothing, a kind, three coordinates.
 const FRONTS: [&[u8]; 3] = [&[], &[1, 3], &[1, 3, 0, 0, 2]];
 
-/// Compares them all, `count` random ones from the seed, and says how many they were.
-pub fn compare(seed: u64, count: usize) -> Result<usize, String> {
+/// Compares them all, `count` random ones from the seed, and says how many they were and how many of them were read.
+pub fn compare(seed: u64, count: usize) -> Result<(usize, usize), String> {
   let mut files = short(4);
   for chart in kept::charts().into_iter().chain([widest()]) {
     files.extend(changed(&write(&chart)));
   }
   files.extend((0..count).map(|i| random(&mut Random::new(seed, i))));
+  let mut read = 0;
   for bytes in &files {
-    compare_reading(bytes, ROOM)?;
+    read += usize::from(compare_reading(bytes, ROOM)?);
   }
   for lent in 0..ROOM + 6 {
     compare_reading(&write(&widest()), lent)?;
     compare_reading(&[], lent)?;
   }
-  Ok(files.len())
+  Ok((files.len(), read))
 }
 
 /// The sample that a program of the library replays: short files, and those of small charts, sound
@@ -57,7 +58,7 @@ fn short(most: usize) -> Vec<Vec<u8>> {
 }
 
 /// A full chart whose coordinates all take three groups.
-fn widest() -> Chart {
+pub fn widest() -> Chart {
   vec![[3, LIMIT, -LIMIT, -LIMIT, LIMIT]; MOST_PIECES]
 }
 

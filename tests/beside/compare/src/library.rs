@@ -12,6 +12,7 @@ unsafe extern "C" {
   fn mirtalughe_meeting(list: *const i32, length: usize) -> Met;
   fn mirtalughe_place(list: *const i32, length: usize) -> Placed;
   fn mirtalughe_read(file: *const u8, size: usize, list: *mut i32, lent: usize) -> Answer;
+  fn mirtalughe_write(list: *const i32, length: usize, file: *mut u8, lent: usize) -> Answer;
   fn mirtalughe_all_pairs(list: *const i32, length: usize, pairs: *mut u8, lent: usize) -> Answer;
   fn mirtalughe_sweep(
     list: *const i32,
@@ -119,6 +120,10 @@ pub fn place(list: &[i32]) -> Result<Vec<u64>, Refusal> {
 
 pub fn read(file: &[u8], list: &mut [i32]) -> Answer {
   unsafe { mirtalughe_read(file.as_ptr(), file.len(), list.as_mut_ptr(), list.len()) }
+}
+
+pub fn write(list: &[i32], file: &mut [u8]) -> Answer {
+  unsafe { mirtalughe_write(list.as_ptr(), list.len(), file.as_mut_ptr(), file.len()) }
 }
 
 pub fn all_pairs(list: &[i32], pairs: &mut [u8]) -> Answer {

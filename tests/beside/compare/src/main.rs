@@ -2,6 +2,7 @@
 //!
 //!   compare gate [SHARE]       the fixed charts, or of those families that have thousands one chart in SHARE
 //!   compare long SEED COUNT    those kept by hand, and COUNT random charts of each temper from SEED
+//!   compare written            the charts of the gate, each with the file that the library writes
 //!   compare record FOLDER      writes the Rust's answers on a fixed sample
 //!   compare listing FILE       what the Rust lists of a chart file, as the chart program's text
 //!   compare bench FOLDER       how long calls take, beside the Rust and the programs in FOLDER
@@ -32,6 +33,7 @@ mod shrink;
 mod sweep;
 mod sweep_call;
 mod text;
+mod writing;
 
 use std::panic;
 use std::process::ExitCode;
@@ -45,6 +47,7 @@ use charts::Random;
 
 const GATE_SEED: u64 = 1;
 const GATE_FILES: usize = 20_000;
+const GRID_PAIR: &str = "grid-pair";
 
 /// Charts of one temper: how many, the one of each index, and what is compared on each.
 struct Family {
@@ -55,6 +58,12 @@ struct Family {
 }
 
 type Check = fn(&Chart) -> Result<(), String>;
+
+impl Family {
+  fn charts(&self) -> impl Iterator<Item = Chart> {
+    (0..self.count).map(|i| (self.chart)(i))
+  }
+}
 
 fn main() -> ExitCode {
   let words: Vec<String> = std::env::args().skip(1).collect();
@@ -69,6 +78,7 @@ fn main() -> ExitCode {
       (Ok(seed), Ok(count)) => (long(seed, count), seed, count),
       _ => return usage(),
     },
+    ["written"] => return written(writing::print(whole().iter().flat_map(Family::charts))),
     ["record", folder] => return written(record::write(folder.as_ref())),
     ["listing", file] => return written(record::print_listing(file.as_ref())),
     ["bench", programs] => return written(bench::print(programs.as_ref())),
@@ -93,9 +103,9 @@ fn main() -> ExitCode {
   }
   let start = Instant::now();
   match files::compare(seed, files) {
-    Ok(count) => {
+    Ok((count, read)) => {
       let seconds = start.elapsed().as_secs_f32();
-      println!("compare: {count} files, {seconds:.1} s");
+      println!("compare: {count} files, {read} of them read and written again, {seconds:.1} s");
       ExitCode::SUCCESS
     }
     Err(told) => {
@@ -107,7 +117,7 @@ fn main() -> ExitCode {
 
 fn usage() -> ExitCode {
   eprintln!(
-    "usage: compare gate [SHARE] | long SEED COUNT | record FOLDER | listing FILE | bench FOLDER"
+    "usage: compare gate [SHARE] | long SEED COUNT | written | record FOLDER | listing FILE | bench FOLDER"
   );
   ExitCode::from(2)
 }
@@ -143,6 +153,13 @@ fn gate(share: usize) -> Vec<Family> {
     random("any-size", GATE_SEED, 300, charts::any_size),
     random("full-size", GATE_SEED, 1_000, charts::full_size),
   ]
+}
+
+/// Those of the gate on which everything is compared.
+fn whole() -> Vec<Family> {
+  let mut families = gate(1);
+  families.retain(|family| family.name != GRID_PAIR);
+  families
 }
 
 /// One chart in `share` of a family.
@@ -188,7 +205,7 @@ fn tiny() -> Family {
 
 fn grid_pairs() -> Family {
   Family {
-    name: "grid-pair",
+    name: GRID_PAIR,
     count: charts::GRID_PAIRS,
     chart: Box::new(charts::grid_pair),
     check: case::check_meetings,
