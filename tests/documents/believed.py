@@ -81,7 +81,7 @@ place/specs/Pair:placeAnswerOf AnswerIsDue
         "3",
         "promises/specs/Sweep:ListsExactly,ListsInOrder,VisitsInOrder,ListsAllPairs,FullSweepBounded,FirstCommon,Ported "
         "promises/specs/Chart:NoneUpright",
-        LISTS + SWEEP + PAIRS,
+        LISTS + SWEEP + PAIRS + "charts/specs/Demand:ListingDue ListingRefusesExactly",
     ),
     ("the steps of the sweep", "bentley_ottmann/specs/Swept:sweepOf,lentAfter", LISTS + TEST),
     (
