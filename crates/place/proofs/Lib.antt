@@ -20,9 +20,9 @@ pub mod Inside
 pub mod Parallel
 pub mod Given
 pub mod Typed
+pub mod Sharing
 pub mod Points
 pub mod Held
-pub mod Sharing
 pub mod Due
 pub mod Once
 pub mod Examples

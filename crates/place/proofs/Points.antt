@@ -18,6 +18,6 @@ unfolding alongOf alongBy
 along-all P s h k = go (endOrder (s .min) (s .max))
   where
     go : (o : Order) → All P (alongBy o (pointOf (s .min)) (pointOf (s .max)))
-    go Less = (h, k)
-    go Equal = h
-    go Greater = (h, k)
+    go Less = search (h, k)
+    go Equal = search (h, k)
+    go Greater = search (h, k)
