@@ -12,7 +12,10 @@ use Rattle.chart_file.specs.Coordinate.{signedOf}
 use Rattle.chart_file.specs.Reading.{kindAt, turned, coordinateAt, standsAt, joined, more, numbers, withLength, piece, ended, readingOf, lentReading, answerOf}
 use Rattle.chart_file.specs.Reading.{pieces as piecesIn}
 use Rattle.chart_file.proofs.Examples.{examples as files}
-use Rattle.line_segment.specs.Piece.{pointOf}
+use Rattle.fractions.specs.Order.{order}
+use Rattle.fractions.specs.Fraction.{ratioOrder}
+use Rattle.fractions.specs.Point.{pointOrder}
+use Rattle.line_segment.specs.Piece.{pointOf, endOrder}
 use Rattle.place.specs.Place.{alongBy, alongOf, whereBy, whereOf}
 use Rattle.naive.specs.Pairs.{bytes, over}
 use Rattle.sweep.specs.Ported.{ported}
