@@ -23,8 +23,9 @@ typedef struct {
     bool included;
 } mirtalughe_end;
 
-/* How two pieces meet. `meets` is 0 for nothing, 1 for a crossing, 2 for an overlap: then `min` and
-   `max` are the ends of the common stretch. Else they are zero. */
+/* How two pieces meet. `meets` is 0 for nothing, 1 for a crossing, 2 for an overlap, which is of pieces of
+   one line: then `min` and `max` are the ends of the common stretch, equal where it is one point. Else they
+   are zero. */
 typedef struct {
     uint8_t number;
     size_t place;
@@ -32,8 +33,9 @@ typedef struct {
     mirtalughe_end min, max;
 } mirtalughe_met;
 
-/* Where two pieces meet, each value the double nearest to the exact one. `meets` is 0 for nothing, 1
-   for at x1, y1, 2 for along from x1, y1 to x2, y2. Values that are not in use are zero. */
+/* Where two pieces meet, each value the double nearest to the exact one. `meets` is 0 for nothing, 1 for at
+   x1, y1, the one point that they share, an overlap's too; 2 for along from x1, y1 to x2, y2, which differ.
+   Values that are not in use are zero. */
 typedef struct {
     uint8_t number;
     size_t place;
