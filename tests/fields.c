@@ -157,9 +157,9 @@ static void answers_of_place(void) {
     CHECK(along.y1 == 2);
     CHECK(along.x2 == 4);
     CHECK(along.y2 == 8);
-    along = mirtalughe_place(touching, MIRTALUGHE_TWO_PIECES);
-    CHECK(along.meets == MIRTALUGHE_ALONG);
-    CHECK(along.x1 == 2 && along.y1 == 1 && along.x2 == 2 && along.y2 == 1);
+    at = mirtalughe_place(touching, MIRTALUGHE_TWO_PIECES);
+    CHECK(at.meets == MIRTALUGHE_AT);
+    CHECK(at.x1 == 2 && at.y1 == 1 && at.x2 == 0 && at.y2 == 0);
 
     mirtalughe_placed others[] = {
         mirtalughe_place(apart, MIRTALUGHE_TWO_PIECES),

@@ -187,7 +187,7 @@ def axes(frame, headings):
 
 
 def drawn_overlaps(meetings, frame):
-    """A thick stretch; one of a single point is a dot."""
+    """A thick stretch."""
     for m in meetings:
         if m.is_overlap():
             ends = *frame.at(*m.place[:2]), *frame.at(*m.place[2:])

@@ -244,4 +244,7 @@ def meeting_at(lines, at, count):
     pair = number_of(line, 1, where), number_of(line, 2, where)
     if not 0 <= pair[0] < pair[1] < count:
         raise Wrong(f"{where}: {pair[0]} {pair[1]} is no pair of pieces below {count}, lesser first")
-    return Meeting(pair, tuple(number_of(line, i, where) for i in range(4, due)))
+    place = tuple(number_of(line, i, where) for i in range(4, due))
+    if place[:2] == place[2:]:
+        raise Wrong(f"{where}: one shared point reads `at`, and `along` has two: an older program wrote {' '.join(line)!r}")
+    return Meeting(pair, place)

@@ -75,11 +75,12 @@ chart_writer/specs/Writing:writtenBy what is read
     ),
     (
         "2, the place",
-        "place/specs/Demand:PlaceIsDue,AnswerIsDue",
+        "place/specs/Demand:PlaceIsDue,AnswerIsDue,AtExactly,AlongExactly",
         LISTS
         + TEST
         + """
 place/specs/Place:placeOf PlaceIsDue
+place/specs/Place:whereOf `AtExactly` and `AlongExactly`
 place/specs/Pair:placeAnswerOf AnswerIsDue
 """,
     ),

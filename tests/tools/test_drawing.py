@@ -91,13 +91,15 @@ class Drawing(unittest.TestCase):
         self.assertLess(float(filled.get("r")), float(open_end.get("r")) - 2)
 
     def test_overlaps(self):
-        listing = "chart 3\ncomplete yes\npair 0 1 along 2 0 4 0\npair 1 2 along 6 0 6 0\nsteps 5\n"
+        """A stretch is a band, and one shared point a ring."""
+        listing = "chart 3\ncomplete yes\npair 0 1 along 2 0 4 0\npair 1 2 at 6 0\nsteps 5\n"
         picture = drawn("3 0 0 4 0\n3 2 0 6 0\n3 6 0 9 0\n", listing)
         pieces = [ends_of(mark) for mark in picture.marked("piece")]
-        stretches = picture.marked("overlap")
-        self.assertEqual([ends_of(mark) for mark in stretches], [(pieces[1][0], pieces[0][1]), (pieces[1][1],) * 2])
-        self.assertTrue(all(float(mark.get("stroke-width")) > 10 for mark in stretches))
-        self.assertEqual(picture.marked("meeting"), [])
+        (stretch,) = picture.marked("overlap")
+        self.assertEqual(ends_of(stretch), (pieces[1][0], pieces[0][1]))
+        self.assertGreater(float(stretch.get("stroke-width")), 10)
+        (ring,) = picture.marked("meeting")
+        self.assertEqual(numbers(ring, "cx", "cy"), pieces[1][1])
         self.assertEqual(picture.pairs(), ["0,1", "1,2"])
 
     def test_one_ring_for_one_place(self):

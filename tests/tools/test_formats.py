@@ -208,6 +208,7 @@ class Listings(unittest.TestCase):
             (b"yes", b"maybe", "line 2: `complete yes` or `complete no` is due"),
             (b"at 2 2", b"at 2", "line 3: `pair a b at x y` or"),
             (b"at 2 2", b"along 2 2", "line 3: `pair a b at x y` or"),
+            (b"at 2 2", b"along 2 2 2 2", "line 3: one shared point reads `at`, and `along` has two: an older program"),
             (b"at 2 2", b"at 2 y", "line 3: word 6 is 'y', which is not a whole number"),
             (b"0 1 at", b"1 0 at", "line 3: 1 0 is no pair of pieces below 3, lesser first"),
             (b"0 1 at", b"0 3 at", "line 3: 0 3 is no pair of pieces below 3, lesser first"),

@@ -88,7 +88,7 @@ pub struct EndPoint {
   pub included: bool,
 }
 
-/// How two pieces meet. An overlap's stretch runs from `min` to `max`.
+/// How two pieces meet. An overlap's stretch runs from `min` to `max`, which are equal where it is one point.
 #[derive(Clone, Copy, PartialEq, Eq, Debug)]
 pub enum Meeting {
   Nothing,
@@ -102,7 +102,8 @@ pub struct PlacePoint {
   pub y: f64,
 }
 
-/// Where two pieces meet, each value the binary64 nearest to the exact one.
+/// Where two pieces meet, each value the binary64 nearest to the exact one: at the one point that they share, an
+/// overlap's too, or along from one point to another.
 #[derive(Clone, Copy, PartialEq, Debug)]
 pub enum Place {
   Nothing,

@@ -94,6 +94,7 @@ fn places() {
   assert_eq!(place(&thirds), Ok(Place::At(at(2.0 / 3.0, 2.0 / 3.0))));
   let lying_on = two([3, -1, 0, 4, 0], [3, 5, 0, 1, 0]);
   assert_eq!(place(&lying_on), Ok(Place::Along(at(1.0, 0.0), at(4.0, 0.0))));
+  assert_eq!(place(&two([3, 0, 0, 2, 0], [3, 2, 0, 5, 0])), Ok(Place::At(at(2.0, 0.0))));
   assert_eq!(place(&two([3, 0, 0, 4, 0], [2, 2, 0, 3, 5])), Ok(Place::Nothing));
 }
 

@@ -94,8 +94,8 @@ typedef enum {
     MIRTALUGHE_NOTHING = 0, /* no point lies on both pieces */
     MIRTALUGHE_CROSSING = 1, /* the two lines have one common point, and it lies on both pieces */
     MIRTALUGHE_OVERLAP = 2, /* both pieces lie on one line and share a stretch of it, or one point of it */
-    MIRTALUGHE_AT = 1, /* a crossing's point */
-    MIRTALUGHE_ALONG = 2 /* an overlap's stretch, from its min to its max */
+    MIRTALUGHE_AT = 1, /* the one point that the pieces share: a crossing's, or an overlap's of one point */
+    MIRTALUGHE_ALONG = 2 /* an overlap's stretch of more than one point, from its min to its max */
 } mirtalughe_meets;
 
 typedef struct {
@@ -112,8 +112,8 @@ typedef struct {
     mirtalughe_end min, max;
 } mirtalughe_met;
 
-/* Where two pieces meet: MIRTALUGHE_AT x1, y1, or MIRTALUGHE_ALONG from x1, y1 to x2, y2, the two equal where the
-   pieces share one point only. Values that are not in use are zero. */
+/* Where two pieces meet: MIRTALUGHE_AT x1, y1, where they share one point only, of one line or not, or MIRTALUGHE_ALONG
+   from x1, y1 to x2, y2, which differ. Values that are not in use are zero. */
 typedef struct {
     uint8_t number;
     size_t place;
@@ -157,8 +157,8 @@ mirtalughe_answer mirtalughe_write(const int32_t *list, size_t length, uint8_t *
 mirtalughe_met mirtalughe_meeting(const int32_t *list, size_t length);
 
 /* Where the two pieces of a list meet; `length` is MIRTALUGHE_TWO_PIECES. Along, the values are the stretch's ends,
-   whole and exact. At, each is the double nearest to the exact value, ties to even, within 1/2^39 of it, and never
-   negative zero; for this the processor's rounding mode is the default one, to the nearest, during the call. */
+   whole and exact, and so is the one point of two pieces on one line. At, each is the double nearest to the exact
+   value, ties to even, within 1/2^39 of it, and never negative zero; for this the processor's rounding mode is the default one, to the nearest, during the call. */
 mirtalughe_placed mirtalughe_place(const int32_t *list, size_t length);
 
 /* Every pair of a list's n pieces that meet, two bytes a pair, the greater number first: for a from 0, for b below a.

@@ -43,7 +43,8 @@ pub struct Met {
     pub max: End,
 }
 
-// Where two pieces meet, in binary64: `meets` is 0 for nothing, 1 at x1, y1 and 2 along from there to x2, y2.
+// Where two pieces meet, in binary64: `meets` is 0 for nothing, 1 at x1, y1, the one shared point, and 2 along from
+// there to x2, y2.
 #[repr(C)]
 pub struct Placed {
     pub number: u8,

@@ -15,9 +15,10 @@ use Rattle.line_segment.specs.Piece.{HasLength, pointOf}
 use Rattle.line_segment.specs.Segment.{intersectOf, crossingOf}
 use Rattle.line_segment.proofs.Promises.{crossing-is-cramers}
 use Rattle.place.specs.declared.Where.{Where}
-use Rattle.place.specs.Place.{alongOf, whereBy, whereOf}
+use Rattle.place.specs.Place.{whereBy, whereOf}
 use Rattle.place.specs.Demand.{InRange}
 use Rattle.place.proofs.Inside.{x-inside, y-inside}
+use Rattle.place.proofs.Points.{All, along-all}
 use Rattle.place.proofs.Held.{StretchInRange, overlap, meeting-in}
 use Rattle.decimals.specs.Text.{ascii}
 use Rattle.decimals.specs.Decimal.{signedDecimal}
@@ -41,16 +42,11 @@ record Charted (p : Point) : Type 0 where
   x : natAbs (p .x) ≤ 2 ^ 15 * p .d
   y : natAbs (p .y) ≤ 2 ^ 15 * p .d
 
-abbrev AllCharted : Where → Type 0
-AllCharted Where.Nothing = Unit
-AllCharted (Where.At p) = Charted p
-AllCharted (Where.Along p q) = Charted p × Charted q
-
 point-width : (p : Point) → Charted p → length (pointText p) ≤ 14
 unfolding pointText
 point-width p h = omega (arith, length-append (unitText (p .x) (p .d)) (unitText (p .y) (p .d)), unit-width (p .x) (p .d) (h .x), unit-width (p .y) (p .d) (h .y))
 
-place-width : (w : Where) → AllCharted w → length (placeText w) ≤ 34
+place-width : (w : Where) → All Charted w → length (placeText w) ≤ 34
 unfolding placeText ascii
 place-width Where.Nothing h = omega arith
 place-width (Where.At p) h = omega (arith, point-width p h)
@@ -60,17 +56,17 @@ place-width (Where.Along p q) h = omega (arith, length-append (pointText p) (poi
 end-charted : (x y : ℤ) → natAbs x ≤ 2 ^ 15 → natAbs y ≤ 2 ^ 15 → Charted (record { x = x; y = y; d = 1 })
 end-charted x y h k = record { x = omega arith; y = omega arith }
 
-where-charted : (a b : LineSegment) → HasLength a → HasLength b → InRange a → InRange b → AllCharted (whereOf a b)
-unfolding whereOf whereBy alongOf pointOf
+where-charted : (a b : LineSegment) → HasLength a → HasLength b → InRange a → InRange b → All Charted (whereOf a b)
+unfolding whereOf whereBy pointOf
 where-charted a b h k r s = go (intersectOf a b) refl (meeting-in a b r s)
   where
-    go : (m : Meeting) → intersectOf a b ≡ m → StretchInRange m → AllCharted (whereBy m (crossingOf a b))
+    go : (m : Meeting) → intersectOf a b ≡ m → StretchInRange m → All Charted (whereBy m (crossingOf a b))
     go Meeting.Nothing e _ = tt
     go Meeting.Crossing e _ =
         let on = crossing-is-cramers a b h k e .1 .common .first in
         record { x = x-inside a (crossingOf a b) on r; y = y-inside a (crossingOf a b) on r h }
     go (Meeting.Overlap t) e (overlap i) =
-        (end-charted (t .min .x) (t .min .y) (i .min .x .small) (i .min .y .small), end-charted (t .max .x) (t .max .y) (i .max .x .small) (i .max .y .small))
+        along-all Charted t (end-charted (t .min .x) (t .min .y) (i .min .x .small) (i .min .y .small)) (end-charted (t .max .x) (t .max .y) (i .max .x .small) (i .max .y .small))
 
 -- ---- lines
 pub count-width : (word : List ℕ) (n k : ℕ) → n < 10 ^ suc k → length (countLine word n) ≤ length word + suc k + 1

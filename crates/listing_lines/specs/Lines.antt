@@ -29,7 +29,7 @@ unitText x d = ascii " " ++ signedDecimal (nearestUnit x d)
 unfoldable pub pointText : Point → List ℕ
 pointText p = unitText (p .x) (p .d) ++ unitText (p .y) (p .d)
 
--- "An overlap reads `pair a b along x1 y1 x2 y2`."
+-- "An overlap reads `pair a b along x1 y1 x2 y2`"; one of a single point is At, as a crossing is
 unfoldable pub placeText : Where → List ℕ
 placeText Where.Nothing = []
 placeText (Where.At p) = ascii " at" ++ pointText p

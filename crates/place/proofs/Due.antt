@@ -6,8 +6,10 @@ use Prim.Native.Nat.{ℕ}
 use native.Mathlib.Omega.{arith}
 use lib.IntN.{ℤ}
 use lib.ListN.{length}
+use Rattle.fractions.specs.declared.Order.{Order}
+use Rattle.fractions.specs.declared.Order.the-variants.{Less, Equal, Greater}
 use Rattle.line_segment.specs.declared.Meeting.{Meeting}
-use Rattle.line_segment.specs.Piece.{HasLength, pointOf}
+use Rattle.line_segment.specs.Piece.{HasLength, endOrder, pointOf}
 use Rattle.line_segment.specs.Segment.{intersectOf, crossingOf}
 use Rattle.line_segment.proofs.Promises.{crossing-is-cramers}
 use Rattle.charts.specs.declared.Verdict.{Verdict}
@@ -18,16 +20,17 @@ use Rattle.charts.proofs.Exactly.{refuses-exactly}
 use Rattle.charts.proofs.Accepted.{pieces-have-length}
 use Rattle.charts.proofs.Ten.{pair-refuses-exactly}
 use Rattle.place.specs.Binary64.{nearest}
-use Rattle.place.specs.Place.{alongOf, whereBy, whereOf, nearestPoint, inBinary64, placeOf, valuesOf}
+use Rattle.place.specs.Place.{alongBy, alongOf, whereBy, whereOf, nearestPoint, inBinary64, placeOf, valuesOf}
 use Rattle.place.specs.Pair.{placeAnswer, placeAnswerOf}
-use Rattle.place.specs.Demand.{Due, nothing, at, along, PlaceIsDue, AnswerDue, AnswerIsDue}
+use Rattle.place.specs.Demand.{Due, nothing, at, at-end, along, PlaceIsDue, AnswerDue, AnswerIsDue}
 use Rattle.place.proofs.Given.{given-in-range}
 use Rattle.place.proofs.Promises.{near, same}
 use Rattle.place.proofs.Inside.{x-inside, y-inside}
 use Rattle.place.proofs.Held.{StretchInRange, overlap, meeting-in, crossing-held}
+use Rattle.place.proofs.Sharing.{no-back}
 
 pub place-is-due : PlaceIsDue
-unfolding placeOf whereOf whereBy alongOf inBinary64 nearestPoint pointOf
+unfolding placeOf whereOf whereBy alongOf alongBy inBinary64 nearestPoint pointOf
 place-is-due a b h k r s = go (intersectOf a b) refl (meeting-in a b r s)
   where
     crossed : intersectOf a b ≡ Meeting.Crossing → Due a b (nearest (crossingOf a b .x) (crossingOf a b .d) ∷ nearest (crossingOf a b .y) (crossingOf a b .d) ∷ [])
@@ -42,10 +45,15 @@ place-is-due a b h k r s = go (intersectOf a b) refl (meeting-in a b r s)
     go : (m : Meeting) → intersectOf a b ≡ m → StretchInRange m → Due a b (valuesOf (inBinary64 (whereBy m (crossingOf a b))))
     go Meeting.Nothing e _ = nothing e
     go Meeting.Crossing e _ = crossed e
-    go (Meeting.Overlap t) e (overlap i) =
-        along e
-        (same (t .min .x) (i .min .x .small)) (same (t .min .y) (i .min .y .small))
-        (same (t .max .x) (i .max .x .small)) (same (t .max .y) (i .max .y .small))
+    go (Meeting.Overlap t) e (overlap i) = stretched (endOrder (t .min) (t .max)) refl
+      where
+        stretched : (o : Order) → endOrder (t .min) (t .max) ≡ o → Due a b (valuesOf (inBinary64 (alongBy o (pointOf (t .min)) (pointOf (t .max)))))
+        stretched Less o =
+            along e o
+            (same (t .min .x) (i .min .x .small)) (same (t .min .y) (i .min .y .small))
+            (same (t .max .x) (i .max .x .small)) (same (t .max .y) (i .max .y .small))
+        stretched Equal o = at-end e o (same (t .min .x) (i .min .x .small)) (same (t .min .y) (i .min .y .small))
+        stretched Greater o = absurd (no-back a b h k t e o)
 
 -- ---- the pair call
 two : {list : List ℤ} {n : ℕ} → length list ≡ 10 → Charts.Due list (Verdict.Accepted n) → n ≡ 2

@@ -14,7 +14,7 @@ use Rattle.line_segment.specs.Piece.{pointOf, endOrder, firstIncluded, secondIn
 use Rattle.line_segment.specs.Geometry.{run, rise}
 use Rattle.line_segment.specs.Segment.{leftBy, leftmostOf, rightBy, rightmostOf, within, innerBetween, stretchBy, stretchOf, touchOf, turnTo, opposed, astrideOf, intersectOf, moment, over, cramerOf, crossingOf}
 use Rattle.place.specs.Binary64.{nearest}
-use Rattle.place.specs.Place.{alongOf, whereBy, whereOf, nearestPoint, inBinary64, placeOf, valuesOf}
+use Rattle.place.specs.Place.{alongBy, alongOf, whereBy, whereOf, nearestPoint, inBinary64, placeOf, valuesOf}
 
 -- the place of two pieces, each value by its bits
 unfoldable pub placed : LineSegment → LineSegment → List ℕ
@@ -32,10 +32,12 @@ pub record Examples : Type 0 where
   pub minus-two-thirds : placed (at (pos 0) (pos 0) (negsuc 0) (negsuc 0)) (at (pos 0) (negsuc 0) (negsuc 1) (pos 0)) ≡ 0xbfe5_5555_5555_5555 ∷ 0xbfe5_5555_5555_5555 ∷ []
   -- "Zero is never negative zero."
   pub zero : placed (at (negsuc 0) (negsuc 0) (pos 1) (pos 1)) (at (negsuc 0) (pos 1) (pos 1) (negsuc 0)) ≡ 0 ∷ 0 ∷ []
-  -- "(0,0)-(2,0) and (2,0)-(5,0), kind 3: Overlap, one point. With the second of kind 2: nothing."
-  pub one-point : placed (at (pos 0) (pos 0) (pos 2) (pos 0)) (at (pos 2) (pos 0) (pos 5) (pos 0)) ≡ 0x4000_0000_0000_0000 ∷ 0 ∷ 0x4000_0000_0000_0000 ∷ 0 ∷ []
+  -- "(0,0)-(2,0) and (2,0)-(5,0), kind 3: Overlap, one point. With the second of kind 2: nothing." The point is At
+  pub one-point : placed (at (pos 0) (pos 0) (pos 2) (pos 0)) (at (pos 2) (pos 0) (pos 5) (pos 0)) ≡ 0x4000_0000_0000_0000 ∷ 0 ∷ []
   pub no-point : placed (at (pos 0) (pos 0) (pos 2) (pos 0)) (pieceOf 2 (pos 2) (pos 0) (pos 5) (pos 0)) ≡ []
+  -- two points and more: Along, whatever the marks
+  pub stretch : placed (at (pos 0) (pos 0) (pos 2) (pos 0)) (pieceOf 0 (pos 1) (pos 0) (pos 5) (pos 0)) ≡ 0x3ff0_0000_0000_0000 ∷ 0 ∷ 0x4000_0000_0000_0000 ∷ 0 ∷ []
 
 pub examples : Examples
-unfolding placed toBits placeOf inBinary64 whereOf whereBy alongOf nearestPoint nearest round crossingOf cramerOf over moment run rise lowestOf common gcdOf euclid intersectOf astrideOf opposed turnTo turnOf det stretchOf stretchBy rightmostOf rightBy leftmostOf leftBy touchOf innerBetween within pieceOf joinOf joinBy firstIncluded secondIncluded endOrder pointOf pointOrder ratioOrder order
-examples = record { two-thirds = refl; minus-two-thirds = refl; zero = refl; one-point = refl; no-point = refl }
+unfolding placed toBits placeOf inBinary64 whereOf whereBy alongOf alongBy nearestPoint nearest round crossingOf cramerOf over moment run rise lowestOf common gcdOf euclid intersectOf astrideOf opposed turnTo turnOf det stretchOf stretchBy rightmostOf rightBy leftmostOf leftBy touchOf innerBetween within pieceOf joinOf joinBy firstIncluded secondIncluded endOrder pointOf pointOrder ratioOrder order
+examples = record { two-thirds = refl; minus-two-thirds = refl; zero = refl; one-point = refl; no-point = refl; stretch = refl }

@@ -25,14 +25,10 @@ use Rattle.line_segment.specs.Piece.{pointOf}
 use Rattle.line_segment.specs.Geometry.{run, rise}
 use Rattle.line_segment.specs.Segment.{intersectOf, astrideOf, opposed, turnTo, touchOf, innerBetween, stretchOf, stretchBy, leftmostOf, rightmostOf, leftBy, rightBy, moment, over, cramerOf, crossingOf}
 use Rattle.place.specs.declared.Where.{Where}
-use Rattle.place.specs.Place.{Held, alongOf, whereBy, whereOf}
+use Rattle.place.specs.Place.{Held, whereBy, whereOf}
 use Rattle.place.specs.Demand.{EndInRange, InRange}
 use Rattle.place.proofs.Parallel.{no-crossing}
-
-abbrev pub HeldAll : Where → Type 0
-HeldAll Where.Nothing = Unit
-HeldAll (Where.At p) = Held p
-HeldAll (Where.Along p q) = Held p × Held q
+use Rattle.place.proofs.Points.{All, along-all}
 
 -- ---- Cramer's point
 record Sizes (p : Point) : Type 0 where
@@ -132,15 +128,15 @@ meeting-in a b r s =
     (either (opposed bMin bMax && opposed aMin aMax) crossing nothing)))))
 
 -- ---- the meeting
-all-held : (a b : LineSegment) → InRange a → InRange b → HeldAll (whereOf a b)
-unfolding whereOf whereBy alongOf
+all-held : (a b : LineSegment) → InRange a → InRange b → All Held (whereOf a b)
+unfolding whereOf whereBy
 all-held a b r s = go (intersectOf a b) refl (meeting-in a b r s)
   where
-    go : (m : Meeting) → intersectOf a b ≡ m → StretchInRange m → HeldAll (whereBy m (crossingOf a b))
+    go : (m : Meeting) → intersectOf a b ≡ m → StretchInRange m → All Held (whereBy m (crossingOf a b))
     go Meeting.Nothing e h = tt
     go Meeting.Crossing e h = crossing-held a b r s e
-    go (Meeting.Overlap t) e (overlap h) = (end-held (h .min), end-held (h .max))
+    go (Meeting.Overlap t) e (overlap h) = along-all Held t (end-held (h .min)) (end-held (h .max))
 
 -- what an arm that knows the answer knows of its points
-pub held-known : {a b : LineSegment} {r w : Where} → InRange a → InRange b → r ≡ whereOf a b → r ≡ w → HeldAll w
-held-known {a} {b} h k e f = subst HeldAll (sym e ∙ f) (all-held a b h k)
+pub held-known : {a b : LineSegment} {r w : Where} → InRange a → InRange b → r ≡ whereOf a b → r ≡ w → All Held w
+held-known {a} {b} h k e f = subst (All Held) (sym e ∙ f) (all-held a b h k)

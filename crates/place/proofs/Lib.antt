@@ -5,7 +5,8 @@
 --   a crossing's lines are not parallel            Parallel    no-crossing
 --   the pieces of a list, of a call                Given       given-in-range;  Typed  typed-piece
 --   where two i16 pieces meet                      Held        meeting-in, crossing-held, held-known
---   statements of specs/Demand                     Due; one result for each contract: Once; computed: Examples
+--   each point of a place                          Points      All, along-all
+--   statements of specs/Demand                     Sharing, Due; one result for each contract: Once; computed: Examples
 pub mod Gap
 pub mod Units
 pub mod Apart
@@ -19,6 +20,8 @@ pub mod Inside
 pub mod Parallel
 pub mod Given
 pub mod Typed
+pub mod Sharing
+pub mod Points
 pub mod Held
 pub mod Due
 pub mod Once

@@ -3,19 +3,26 @@ use mathlib.Core.List.{List, [], _∷_}
 use Prim.Native.Nat.{_<_, _≤_, _^_}
 use lib.IntN.{natAbs}
 use lib.Ieee.{Float}
+use Rattle.fractions.specs.declared.Order.{Order}
+use Rattle.fractions.specs.declared.Order.the-variants.{Less, Equal, Greater}
 use Rattle.fractions.specs.declared.Point.{Point}
 use Rattle.line_segment.specs.declared.LineSegment.{LineSegment}
 use Rattle.line_segment.specs.declared.Meeting.{Meeting}
-use Rattle.line_segment.specs.Piece.{pointOf}
+use Rattle.line_segment.specs.Piece.{pointOf, endOrder}
 use Rattle.line_segment.specs.Segment.{intersectOf, crossingOf}
 use Rattle.place.specs.declared.PlacePoint.{PlacePoint}
 use Rattle.place.specs.declared.Where.{Where}
 use Rattle.place.specs.declared.Place.{Place}
 use Rattle.place.specs.Binary64.{nearest}
 
--- "Along (one-point stretches too) gives the stretch's ends"
+-- "At that point .., and Along only when the ends differ": from p to q, by their order; a stretch never runs back
+unfoldable pub alongBy : Order → Point → Point → Where
+alongBy Less p q = Where.Along p q
+alongBy Equal p q = Where.At p
+alongBy Greater p q = Where.Along p q
+
 unfoldable pub alongOf : LineSegment → Where
-alongOf s = Where.Along (pointOf (s .min)) (pointOf (s .max))
+alongOf s = alongBy (endOrder (s .min) (s .max)) (pointOf (s .min)) (pointOf (s .max))
 
 -- "Nothing, At a point, or Along from one point to another"
 unfoldable pub whereBy : Meeting → Point → Where

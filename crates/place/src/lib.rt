@@ -6,6 +6,7 @@ ghost use Rattle.place.specs.Binary64.{nearest};
 ghost use Rattle.place.specs.Pair.{placeAnswerOf};
 ghost use Rattle.place.specs.Place.{alongOf, whereOf, placeOf, Held, nearestPoint};
 use charts::Verdict;
+use fractions::Order;
 use fractions::Point;
 use line_segment::LineSegment;
 use line_segment::Meeting;
@@ -38,16 +39,20 @@ pub struct PlaceAnswer {
     pub meeting: Place,
 }
 
-// The stretch of an overlap, from its min to its max, whatever its marks.
+// The stretch of an overlap, from its min to its max, whatever its marks: one point where they are
+// equal.
 fn along(s: LineSegment) -> Where
     ensures { λ r. ⌜ r ≡ alongOf s ⌝ }
 {
-    let from = s.min;
-    let to = s.max;
-    Where::Along(
-        fractions::whole(from.x, from.y),
-        fractions::whole(to.x, to.y),
-    )
+    let min = s.min;
+    let max = s.max;
+    let from = fractions::whole(min.x, min.y);
+    let to = fractions::whole(max.x, max.y);
+    match fractions::compare_points(from, to) {
+        Order::Less => Where::Along(from, to),
+        Order::Equal => Where::At(from),
+        Order::Greater => Where::Along(from, to),
+    }
 }
 
 // Where two pieces meet, by the segment test.

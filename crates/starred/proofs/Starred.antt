@@ -12,8 +12,11 @@ use Rattle.chart_file.specs.Coordinate.{signedOf}
 use Rattle.chart_file.specs.Reading.{kindAt, turned, coordinateAt, standsAt, joined, more, numbers, withLength, piece, ended, readingOf, lentReading, answerOf}
 use Rattle.chart_file.specs.Reading.{pieces as piecesIn}
 use Rattle.chart_file.proofs.Examples.{examples as files}
-use Rattle.line_segment.specs.Piece.{pointOf}
-use Rattle.place.specs.Place.{alongOf, whereBy, whereOf}
+use Rattle.fractions.specs.Order.{order}
+use Rattle.fractions.specs.Fraction.{ratioOrder}
+use Rattle.fractions.specs.Point.{pointOrder}
+use Rattle.line_segment.specs.Piece.{pointOf, endOrder}
+use Rattle.place.specs.Place.{alongBy, alongOf, whereBy, whereOf}
 use Rattle.naive.specs.Pairs.{bytes, over}
 use Rattle.sweep.specs.Ported.{ported}
 use Rattle.sweep.specs.Run.{Answer}
@@ -23,7 +26,7 @@ use Rattle.starred.specs.Starred.{cross, Starred}
 use Rattle.starred.proofs.Sweeps.{sweeps}
 
 pub starred : Starred
-unfolding outside offRange eqZ sameEnds faultOf numberAt faultAt pieces verdictOf kindOf coordinateOf pieceAt room listingOf pairVerdictOf meetingOf value marked groupsAt signedOf kindAt turned coordinateAt standsAt joined more numbers withLength piece ended readingOf lentReading answerOf piecesIn pointOf alongOf whereBy whereOf bytes over sweptBy listedOver sweepOf lentAfter
+unfolding outside offRange eqZ sameEnds faultOf numberAt faultAt pieces verdictOf kindOf coordinateOf pieceAt room listingOf pairVerdictOf meetingOf value marked groupsAt signedOf kindAt turned coordinateAt standsAt joined more numbers withLength piece ended readingOf lentReading answerOf piecesIn pointOf endOrder order ratioOrder pointOrder alongBy alongOf whereBy whereOf bytes over sweptBy listedOver sweepOf lentAfter
 starred = record {
   points = sweeps .cross-points;
   two-steps = ap (saying 2 (pieceAt cross)) (sweeps .cross-two);
@@ -33,7 +36,7 @@ starred = record {
   thirds-cross = ap met (examples .thirds);
   thirds-at = ap₂ whereBy (examples .thirds) (examples .thirds-at);
   one-point = ap met (examples .one-point);
-  one-point-along = ap₂ whereBy (examples .one-point) refl;
+  one-point-at = ap₂ whereBy (examples .one-point) refl;
   no-point = ap met (examples .no-point);
   touches = ap met (examples .touch);
   touches-at = ap₂ whereBy (examples .touch) (examples .touch-at);

@@ -46,7 +46,7 @@ pub record Starred : Type 0 where
   pub thirds-at : place thirds ≡ Where.At (at 2 2 3)
   -- "(0,0)-(2,0) and (2,0)-(5,0), kind 3: Overlap, one point. With the second of kind 2: nothing."
   pub one-point : meetingOf (in-line 3) ≡ met (Overlap (record { min = end 2 0; max = end 2 0 }))
-  pub one-point-along : place (in-line 3) ≡ Where.Along (at 2 0 1) (at 2 0 1)
+  pub one-point-at : place (in-line 3) ≡ Where.At (at 2 0 1)
   pub no-point : meetingOf (in-line 2) ≡ met Nothing
   -- "(0,0)-(4,0) kind 3, (2,0)-(3,5) kind 3: Crossing at (2,0). Second of kind 2: nothing."
   pub touches : meetingOf (touch 3) ≡ met Crossing

@@ -33,6 +33,15 @@ impl Line {
     }
   }
 
+  /// With its ends added.
+  fn closed(&self) -> Line {
+    let [min, max] = [self.min, self.max].map(|e| End {
+      included: true,
+      ..e
+    });
+    Line { min, max }
+  }
+
   fn dx(&self) -> i128 {
     i128::from(self.max.x - self.min.x)
   }
@@ -114,6 +123,25 @@ pub fn meeting_of(a: &Line, b: &Line) -> Meeting {
     Meeting::Overlap(from, to)
   } else {
     Meeting::Nothing
+  }
+}
+
+/// Where two pieces meet, by how many points they share with their ends added: one, or a stretch from
+/// the first to the last, which are ends.
+pub fn place_of(a: &Line, b: &Line) -> Vec<Point> {
+  if meeting_of(a, b) == Meeting::Nothing {
+    return vec![];
+  }
+  let (a, b) = (a.closed(), b.closed());
+  let ends = [a.min, a.max, b.min, b.max].map(|e| at(&e));
+  let all = common(&a, &b).map_or(ends.to_vec(), |p| vec![p]);
+  let shared = |p: &Point| a.contains(p) && b.contains(p);
+  let mut points: Vec<Point> = all.into_iter().filter(shared).collect();
+  points.sort();
+  points.dedup();
+  match points[..] {
+    [first, .., last] => vec![first, last],
+    _ => points,
   }
 }
 

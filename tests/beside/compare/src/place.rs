@@ -1,34 +1,41 @@
 //! The place of a meeting in binary64: the Rust's exact answer and its conversion, the library, the model.
 
-use crate::answers::{End, Meeting, Point};
+use crate::answers::{Meeting, Point};
 use crate::case::{Case, same};
-use crate::{library, original};
+use crate::library;
+use crate::model::{self, Line, at};
+use crate::original;
 
 pub fn compare(case: &Case) -> Result<(), String> {
   for (a, b) in case.pairs() {
     let call = || format!("place of the meeting of {a} and {b}");
-    let rust = match case.original.meeting(a, b) {
-      Meeting::Nothing => vec![],
-      Meeting::Crossing => {
-        let p = case.original.crossing(a, b).ok_or("no point")?;
-        let rust = bits(&original::place(&p));
-        same(call, &rust, "model", &bits(&nearest_point(&p)))?;
-        rust
-      }
-      Meeting::Overlap(from, to) => [whole(&from), whole(&to)].concat(),
-    };
+    let found = points(case.original.meeting(a, b), case.original.crossing(a, b));
+    let [line, other] = [a, b].map(|i| Line::of(&case.chart[i]));
+    same(call, &found, "model", &model::place_of(&line, &other))?;
+    let rust = bits(found.iter().map(original::place));
+    same(call, &rust, "model", &bits(found.iter().map(nearest_point)))?;
     let ten = [case.chart[a], case.chart[b]].concat();
     same(call, Ok(rust), "library", library::place(&ten))?;
   }
   Ok(())
 }
 
-fn bits(values: &[f64]) -> Vec<u64> {
-  values.iter().map(|v| v.to_bits()).collect()
+/// Where two pieces meet by the Rust's answers: nowhere, at a point, or along from one point to another.
+/// The ends of an overlap of one point are equal.
+pub fn points(meeting: Meeting, crossing: Option<Point>) -> Vec<Point> {
+  match meeting {
+    Meeting::Nothing => vec![],
+    Meeting::Crossing => vec![crossing.expect("pieces that cross have a crossing")],
+    Meeting::Overlap(from, to) => {
+      let mut ends = vec![at(&from), at(&to)];
+      ends.dedup();
+      ends
+    }
+  }
 }
 
-fn whole(end: &End) -> Vec<u64> {
-  bits(&[end.x as f64, end.y as f64])
+fn bits(values: impl Iterator<Item = [f64; 2]>) -> Vec<u64> {
+  values.flatten().map(f64::to_bits).collect()
 }
 
 fn nearest_point(p: &Point) -> [f64; 2] {

@@ -12,6 +12,7 @@ use crate::file;
 use crate::files;
 use crate::kept;
 use crate::original::{self, Original};
+use crate::place;
 
 const SEED: u64 = 2;
 
@@ -111,18 +112,19 @@ fn segment(chart: &Chart) -> String {
 
 /// The place of the same meeting, each value as the 16 hexadecimal digits of its binary64.
 fn place(chart: &Chart) -> String {
-  let original = Original::new(chart);
-  let bits = |p: Point| {
-    let [x, y] = original::place(&p).map(f64::to_bits);
+  let bits = |p: &Point| {
+    let [x, y] = original::place(p).map(f64::to_bits);
     format!("{x:016x} {y:016x}")
   };
-  let whole = |e: End| bits(Point::whole(e.x.into(), e.y.into()));
-  match (original.meeting_exact(0, 1), original.crossing(0, 1)) {
-    (Meeting::Nothing, _) => "nothing\n".to_string(),
-    (Meeting::Overlap(from, to), _) => format!("along {} {}\n", whole(from), whole(to)),
-    (Meeting::Crossing, Some(p)) => format!("at {}\n", bits(p)),
-    (Meeting::Crossing, None) => unreachable!("pieces that cross have a crossing"),
+  match &points(&Original::new(chart), 0, 1)[..] {
+    [] => "nothing\n".to_string(),
+    [p] => format!("at {}\n", bits(p)),
+    [p, .., q] => format!("along {} {}\n", bits(p), bits(q)),
   }
+}
+
+fn points(original: &Original, a: usize, b: usize) -> Vec<Point> {
+  place::points(original.meeting_exact(a, b), original.crossing(a, b))
 }
 
 /// One line: the count of pairs, then each pair.
@@ -158,12 +160,11 @@ fn listing(chart: &Chart) -> String {
   let run = original.run();
   let mut text = format!("chart {}\ncomplete {}\n", chart.len(), complete(chart));
   for (a, b) in run.list {
-    let place = match (original.meeting_exact(a, b), original.crossing(a, b)) {
-      (Meeting::Overlap(from, to), _) => {
-        format!("along {} {} {} {}", from.x, from.y, to.x, to.y)
-      }
-      (_, Some(p)) => format!("at {} {}", unit(p.x, p.d), unit(p.y, p.d)),
-      (_, None) => unreachable!("listed pairs overlap or cross"),
+    let units = |p: &Point| format!("{} {}", unit(p.x, p.d), unit(p.y, p.d));
+    let place = match &points(&original, a, b)[..] {
+      [] => unreachable!("listed pairs meet"),
+      [p] => format!("at {}", units(p)),
+      [p, .., q] => format!("along {} {}", units(p), units(q)),
     };
     let _ = writeln!(text, "pair {a} {b} {place}");
   }
