@@ -26,13 +26,11 @@ completeLine false = ascii "complete no\n"
 unfoldable pub numberText : ℤ → List ℕ
 numberText z = ascii " " ++ signedDecimal z
 
--- "the greatest whole unit not above the exact value and the least not below it"
-unfoldable pub unitsText : ℤ → ℕ → List ℕ
-unitsText x d = numberText (lowOf x d) ++ numberText (highOf x d)
-
--- "at xlow xhigh ylow yhigh"
+-- "at xlow xhigh ylow yhigh": "the greatest whole unit not above the exact value and the least not below it"
 unfoldable pub pointText : Point → List ℕ
-pointText p = unitsText (p .x) (p .d) ++ unitsText (p .y) (p .d)
+pointText p =
+    numberText (lowOf (p .x) (p .d)) ++ numberText (highOf (p .x) (p .d))
+    ++ numberText (lowOf (p .y) (p .d)) ++ numberText (highOf (p .y) (p .d))
 
 -- an overlap's end is whole, and so its own unit
 unfoldable pub endText : Point → List ℕ

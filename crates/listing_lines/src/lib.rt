@@ -3,7 +3,7 @@ ghost use mathlib.Core.Path.{_≡_};
 ghost use Rattle.decimals.specs.Text.{text as Text·text, put};
 ghost use Rattle.charts.specs.Piece.{pieceAt};
 ghost use Rattle.place.specs.Place.{whereOf};
-ghost use Rattle.listing_lines.specs.Lines.{countLine, completeLine, numberText, unitsText, pointText, endText, placeText, pairLine, pairsIn, pairLines};
+ghost use Rattle.listing_lines.specs.Lines.{countLine, completeLine, numberText, pointText, endText, placeText, pairLine, pairsIn, pairLines};
 use fractions::Point;
 use place::Where;
 
@@ -33,20 +33,16 @@ fn put_number(text: &mut [u8], end: usize, z: i64) -> usize
     decimals::put_integer(text, spaced, z)
 }
 
-// The two whole units between which x/d lies.
-fn put_units(text: &mut [u8], end: usize, x: i64, d: u64) -> usize
-    ensures { λ r. ⌜ Text·text (now (text .exit)) r ≡ put (unitsText x d) (Text·text (now (text .entry)) end) ⌝ }
-{
-    let units = units::units_of(x, d);
-    let low = put_number(text, end, units.low);
-    put_number(text, low, units.high)
-}
-
+// The whole units between which a point's speed lies, and then its frequency.
 fn put_point(text: &mut [u8], end: usize, p: Point) -> usize
     ensures { λ r. ⌜ Text·text (now (text .exit)) r ≡ put (pointText p) (Text·text (now (text .entry)) end) ⌝ }
 {
-    let across = put_units(text, end, p.x, p.d);
-    put_units(text, across, p.y, p.d)
+    let speed = units::units_of(p.x, p.d);
+    let frequency = units::units_of(p.y, p.d);
+    let from = put_number(text, end, speed.low);
+    let across = put_number(text, from, speed.high);
+    let up = put_number(text, across, frequency.low);
+    put_number(text, up, frequency.high)
 }
 
 // An end of an overlap, which is whole.
