@@ -1,4 +1,4 @@
--- How long a line is: a pair's has at most 45 bytes.
+-- How long a line is: a pair's has at most 45 bytes, one of an At at most 42.
 -- Assumes nothing.
 use mathlib.Core.Path.{_≡_, refl}
 use mathlib.Core.Bool.{Bool, true, false}
