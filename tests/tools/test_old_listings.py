@@ -9,9 +9,10 @@ MOST_TOLD = 20
 
 
 def lines_moved(before, after):
-    """The lines that differ, told as they are found, the first few of many. No line comes or goes."""
+    """The lines that differ, told as they are found, the first few of many. No line comes or goes; the listings of
+    charts that were added since stand at the end."""
     old, new = (path.read_text().splitlines() for path in (before, after))
-    moved = [(a, b) for a, b in zip(old, new, strict=True) if a != b]
+    moved = [(a, b) for a, b in zip(old, new[: len(old)], strict=True) if a != b]
     print(f"{before.stem}: {len(moved)} of {len(old)} lines moved")
     for a, b in moved[:MOST_TOLD]:
         print(f"  {a:32}  {b}")

@@ -125,6 +125,7 @@ fn gate() -> Vec<Family> {
     random("extreme", GATE_SEED, 3_000, charts::extreme),
     random("near-tied", GATE_SEED, 2_000, charts::near_ties),
     random("half-way", GATE_SEED, 2_000, charts::near_halves),
+    random("near-whole", GATE_SEED, 2_000, charts::near_wholes),
     random("any-size", GATE_SEED, 300, charts::any_size),
     random("full-size", GATE_SEED, 1_000, charts::full_size),
   ]
@@ -137,6 +138,7 @@ fn long(seed: u64, count: usize) -> Vec<Family> {
     random("extreme", seed, count, charts::extreme),
     random("near-tied", seed, count, charts::near_ties),
     random("half-way", seed, count, charts::near_halves),
+    random("near-whole", seed, count, charts::near_wholes),
     random("any-size", seed, count, charts::any_size),
     random("full-size", seed, count, charts::full_size),
   ]

@@ -80,6 +80,7 @@ fn charts_of_any_count() -> Vec<Chart> {
   small
     .chain(wide)
     .chain(random(10, charts::full_size))
+    .chain(random(40, charts::near_wholes))
     .collect()
 }
 
