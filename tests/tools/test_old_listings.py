@@ -1,19 +1,28 @@
 """Listings as they were before a request, kept in tests/recorded/listings, beside those of today: the lines that moved."""
+import re
 import unittest
-from pathlib import Path
 
-ROOT = Path(__file__).parents[2]
+from test_formats import ROOT, answers
+
 KEPT = ROOT / "tests/recorded/listings"
-TODAY = ROOT / "crates/replay_chart/stdout"
 MOST_TOLD = 20
 
 
-def lines_moved(before, after):
+def kept(name):
+    return (KEPT / f"{name}.txt").read_text().splitlines()
+
+
+def today():
+    """The recorded listings, which stand last: from the first line that is `chart` and a number alone."""
+    lines = answers().splitlines()
+    return lines[next(i for i, line in enumerate(lines) if re.fullmatch(r"chart \d+", line)) :]
+
+
+def lines_moved(name, old, new):
     """The lines that differ, told as they are found, the first few of many. No line comes or goes; the listings of
     charts that were added since stand at the end."""
-    old, new = (path.read_text().splitlines() for path in (before, after))
     moved = [(a, b) for a, b in zip(old, new[: len(old)], strict=True) if a != b]
-    print(f"{before.stem}: {len(moved)} of {len(old)} lines moved")
+    print(f"{name}: {len(moved)} of {len(old)} lines moved")
     for a, b in moved[:MOST_TOLD]:
         print(f"  {a:32}  {b}")
     if len(moved) > MOST_TOLD:
@@ -25,7 +34,7 @@ class OnePointIsAPoint(unittest.TestCase):
     """2026-03: where two collinear pieces share a single point, the line says `at`; no other line moves."""
 
     def test_moved(self):
-        moved = lines_moved(KEPT / "until_2026-03.txt", KEPT / "until_2026-04.txt")
+        moved = lines_moved("2026-03", kept("until_2026-03"), kept("until_2026-04"))
         self.assertEqual(len(moved), 16)
         for old, new in moved:
             pair, place = old.split(" along ")
@@ -34,7 +43,7 @@ class OnePointIsAPoint(unittest.TestCase):
             self.assertEqual(new, f"{pair} at {x} {y}")
 
     def test_none_left(self):
-        for line in TODAY.read_text().splitlines():
+        for line in today():
             _, is_along, place = line.partition(" along ")
             if is_along:
                 x1, y1, x2, y2 = place.split()
@@ -45,9 +54,9 @@ class NeitherSideIsRoundedAway(unittest.TestCase):
     """2026-04: every `at` has two units for one; the nearest that stood there is one of them, and no other line moves."""
 
     def test_moved(self):
-        before = KEPT / "until_2026-04.txt"
-        moved = lines_moved(before, TODAY)
-        self.assertEqual(len(moved), sum(" at " in line for line in before.read_text().splitlines()))
+        before = kept("until_2026-04")
+        moved = lines_moved("2026-04", before, today())
+        self.assertEqual(len(moved), sum(" at " in line for line in before))
         self.assertEqual(len(moved), 1619)
         whole = 0
         for old, new in moved:

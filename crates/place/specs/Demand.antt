@@ -44,7 +44,7 @@ pub record Single (a b : LineSegment) (p : Point) : Type 0 where
   pub meet : Common a b p
   pub only : (q : Point) → Shared a b q → pointOrder p q ≡ Equal
 
--- "When two collinear pieces share a single point, the place shall be At that point": so of any two pieces
+-- "When two collinear pieces share a single point, the place is At that point": so of any two pieces
 abbrev pub AtExactly : Type 0
 AtExactly = (a b : LineSegment) → HasLength a → HasLength b → (p : Point) → (whereOf a b ≡ Where.At p) ↔ Single a b p
 

@@ -1,19 +1,19 @@
--- `replay_all` counts its turns down.
+-- `main` counts its turns down.
 use borrow.Author.Needs.{needs}
 use mathlib.Core.Path.{_≡_}
 use Prim.Native.Nat.{_<_, _^_}
 use lib.ListN.{length}
-use Rattle.replay.proofs.replay_all.Statement.{statement}
-use Rattle.replay.proofs.replay_all.Tie as tie
+use Rattle.replay.proofs.main.Statement.{statement}
+use Rattle.replay.proofs.main.Tie as tie
 
 abbrev Inv-loop : tie.InvT-loop
-Inv-loop asked space₀ turns₀ space turns = (turns < 2 ^ 64) × (length space ≡ length space₀)
+Inv-loop space₀ turns₀ space turns = (turns < 2 ^ 64) × (length space ≡ length space₀)
 
 abbrev μ-loop : tie.MeasureT-loop
-μ-loop asked space₀ turns₀ space turns = turns
+μ-loop space₀ turns₀ space turns = turns
 
-pub replay-all-spec : {M : Type 1} → statement M
-replay-all-spec =
+pub main-spec : {M : Type 1} → statement M
+main-spec =
     tie.close
     (tie.spec
     Inv-loop
