@@ -3,6 +3,7 @@ from collections import defaultdict
 from math import ceil, dist, floor
 from xml.sax.saxutils import escape, quoteattr
 
+from formats import Along, At
 from room import Box, Room
 
 WIDTH, HEIGHT = 1100, 760
@@ -14,6 +15,8 @@ COLOURS = (
 )
 DASHES = ("", "9 5", "3 4", "12 4 3 4")
 INCLUDED, EXCLUDED, RING, THICK = 3.5, 6, 8.5, 14
+# A cell that is wider or taller than this is drawn.
+SEEN = 4
 SMALL, CHARACTER = 11, 0.6
 LONGEST_NAME, MOST_PAIRS = 40, 4
 # How far a label may stand off its mark. Among a crowd of places labels cover each other wherever they stand.
@@ -50,7 +53,7 @@ class Frame:
     def __init__(self, pieces, meetings, beside):
         corners = [end[:2] for piece in pieces for end in piece.ends()]
         for m in meetings:
-            corners += [m.place[:2], m.place[-2:]]
+            corners += m.place.corners()
         self.xs, self.ys = (span([corner[i] for corner in corners]) for i in (0, 1))
         self.box = Box(LEFT, TOP, WIDTH - MARGIN - beside, HEIGHT - BOTTOM)
 
@@ -59,6 +62,11 @@ class Frame:
         up = (y - self.ys[0]) / (self.ys[1] - self.ys[0])
         box = self.box
         return box.left + across * (box.right - box.left), box.bottom - up * (box.bottom - box.top)
+
+    def cell(self, place):
+        """Where an At lies, from unit to unit."""
+        (x1, y1), (x2, y2) = (self.at(*corner) for corner in place.corners())
+        return Box(x1, y2, x2, y1)
 
     def line(self, piece):
         return *self.at(piece.x1, piece.y1), *self.at(piece.x2, piece.y2)
@@ -189,9 +197,9 @@ def axes(frame, headings):
 def drawn_overlaps(meetings, frame):
     """A thick stretch."""
     for m in meetings:
-        if m.is_overlap():
-            ends = *frame.at(*m.place[:2]), *frame.at(*m.place[2:])
-            told = f"pair {m.pair[0]} {m.pair[1]} along {' '.join(map(str, m.place))}"
+        if isinstance(m.place, Along):
+            start, end = (frame.at(*corner) for corner in m.place.corners())
+            ends, told = (*start, *end), f"pair {m.pair[0]} {m.pair[1]} {m.place}"
             yield line(*ends, told, role="overlap", stroke=OVERLAP, stroke_width=THICK, stroke_linecap="round")
 
 
@@ -213,12 +221,22 @@ def drawn_ends(pieces, frame, styles, room):
 
 
 def drawn_meetings(places, frame, room):
+    """A ring in the middle of a point's cell, and the cell where it can be told from a point."""
     for place, pairs in places.items():
-        if len(place) == 2:
-            at = frame.at(*place)
+        if isinstance(place, At):
+            at, cell = frame.at(*place.middle()), frame.cell(place)
             room.take(Box.around(*at, 2 * RING + 6, 2 * RING + 6))
-            told = ", ".join(f"pair {a} {b}" for a, b in pairs) + f" at {place[0]} {place[1]}"
+            if max(cell.right - cell.left, cell.bottom - cell.top) > SEEN:
+                yield outline(cell, role="cell", stroke=MEETS, stroke_width=0.9, stroke_dasharray="3 3")
+            told = ", ".join(f"pair {a} {b}" for a, b in pairs) + f" {place}"
             yield circle(*at, RING, told, role="meeting", fill="none", stroke=MEETS, stroke_width=1.8)
+
+
+def outline(box, **attributes):
+    """The edge of a box, which may be a line."""
+    corners = ((box.left, box.top), (box.right, box.top), (box.right, box.bottom), (box.left, box.bottom))
+    path = "M" + " L".join(f"{px(x)} {px(y)}" for x, y in corners) + " Z"
+    return f'<path d="{path}" fill="none"{written(attributes)}/>'
 
 
 def drawn_tags(pieces, frame, styles, room):
@@ -246,10 +264,10 @@ def along(x1, y1, x2, y2):
 
 def drawn_pairs(places, frame, room):
     """The pairs of a place, beside its ring or stretch; a thin line leads there from afar or from between two."""
-    rings = [frame.at(*place) for place in places if len(place) == 2]
+    rings = [frame.at(*place.middle()) for place in places if isinstance(place, At)]
     gaps = GAPS if len(places) < CROWD else GAPS[:1]
     for place, pairs in places.items():
-        x, y = frame.at(*place) if len(place) == 2 else clear_of(rings, *frame.at(*place[:2]), *frame.at(*place[2:]))
+        x, y = frame.at(*place.middle()) if isinstance(place, At) else clear_of(rings, place, frame)
         words = " ".join(f"{a},{b}" for a, b in pairs[:MOST_PAIRS])
         if len(pairs) > MOST_PAIRS:
             words += f" and {len(pairs) - MOST_PAIRS:,} more"
@@ -262,9 +280,10 @@ def drawn_pairs(places, frame, room):
         yield label(box, words, role="pair", fill=MEETS, **halo)
 
 
-def clear_of(rings, x1, y1, x2, y2):
+def clear_of(rings, place, frame):
     """The point of a stretch that is farthest from every ring."""
-    spots = along(x1, y1, x2, y2)
+    start, end = (frame.at(*corner) for corner in place.corners())
+    spots = along(*start, *end)
     return max(spots, key=lambda spot: min((dist(spot, ring) for ring in rings), default=0))
 
 

@@ -69,14 +69,55 @@ class Chart:
 
 
 @dataclass(frozen=True)
+class At:
+    """A point, by the whole units on both sides of its speed and of its frequency: the cell in which it lies."""
+
+    x_low: int
+    x_high: int
+    y_low: int
+    y_high: int
+
+    def corners(self):
+        return (self.x_low, self.y_low), (self.x_high, self.y_high)
+
+    def middle(self):
+        return (self.x_low + self.x_high) / 2, (self.y_low + self.y_high) / 2
+
+    def fault(self):
+        if not (0 <= self.x_high - self.x_low <= 1 and 0 <= self.y_high - self.y_low <= 1):
+            return "a low unit and a high one are equal or next to each other"
+        return None
+
+    def __str__(self):
+        return f"at {self.x_low} {self.x_high} {self.y_low} {self.y_high}"
+
+
+@dataclass(frozen=True)
+class Along:
+    """A stretch, by its two ends."""
+
+    x1: int
+    y1: int
+    x2: int
+    y2: int
+
+    def corners(self):
+        return (self.x1, self.y1), (self.x2, self.y2)
+
+    def fault(self):
+        start, end = self.corners()
+        return "one shared point reads `at`, and `along` has two: an older program wrote it" if start == end else None
+
+    def __str__(self):
+        return f"along {self.x1} {self.y1} {self.x2} {self.y2}"
+
+
+@dataclass(frozen=True)
 class Meeting:
-    """A pair, and the point or the two ends of the stretch at which it meets."""
+    """A pair, and where it meets: an At or an Along."""
 
     pair: tuple
-    place: tuple
-
-    def is_overlap(self):
-        return len(self.place) == 4
+    place: object
 
 
 @dataclass(frozen=True)
@@ -238,13 +279,17 @@ def number_of(line, i, where):
 
 def meeting_at(lines, at, count):
     line, where = lines[at], f"line {at + 1}"
-    due = {"at": 6, "along": 8}.get(line[3] if len(line) > 3 else "")
-    if due != len(line) or line[0] != "pair":
-        raise Wrong(f"{where}: `pair a b at x y` or `pair a b along x1 y1 x2 y2` is due, not {' '.join(line)!r}")
+    form = {"at": At, "along": Along}.get(line[3] if len(line) > 3 else "")
+    if form is At and len(line) == 6:
+        older = "an older program, which told the nearest of each alone, wrote it"
+        raise Wrong(f"{where}: two units of the speed and two of the frequency are due after `at`: {older}")
+    if form is None or len(line) != 8 or line[0] != "pair":
+        due = "`pair a b at xlow xhigh ylow yhigh` or `pair a b along x1 y1 x2 y2`"
+        raise Wrong(f"{where}: {due} is due, not {' '.join(line)!r}")
     pair = number_of(line, 1, where), number_of(line, 2, where)
     if not 0 <= pair[0] < pair[1] < count:
         raise Wrong(f"{where}: {pair[0]} {pair[1]} is no pair of pieces below {count}, lesser first")
-    place = tuple(number_of(line, i, where) for i in range(4, due))
-    if place[:2] == place[2:]:
-        raise Wrong(f"{where}: one shared point reads `at`, and `along` has two: an older program wrote {' '.join(line)!r}")
+    place = form(*(number_of(line, i, where) for i in range(4, 8)))
+    if place.fault():
+        raise Wrong(f"{where}: {place.fault()}")
     return Meeting(pair, place)

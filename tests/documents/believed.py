@@ -98,12 +98,13 @@ place/specs/Pair:placeAnswerOf AnswerIsDue
     ("the steps of the sweep", "bentley_ottmann/specs/Swept:sweepOf,lentAfter", LISTS + TEST),
     (
         "the listing",
-        "listing/specs/Listing:listingAnswer,lentAfter units/specs/Demand:RoundsExactly decimals/specs/Demand:ReadsBack",
+        "listing/specs/Listing:listingAnswer,lentAfter units/specs/Demand:LowExactly,HighExactly,EqualWhenWhole decimals/specs/Demand:ReadsBack",
         LISTS
         + TEST
         + """
 chart_file/specs/Reading:readingOf ReadsExactly
-units/specs/Units:nearestUnit RoundsExactly
+units/specs/Units:lowOf LowExactly
+units/specs/Units:highOf HighExactly
 decimals/specs/Decimal:decimal ReadsBack
 """,
     ),

@@ -58,7 +58,7 @@ class Command(unittest.TestCase):
         with tempfile.TemporaryDirectory() as folder:
             text = Path(folder) / "text"
             text.write_bytes(b"3 0 0 4 4\n3 0 4 4 0\n")
-            status, picture, said = run("draw", text, given=b"chart 2\ncomplete yes\npair 0 1 at 2 2\nsteps 5\n")
+            status, picture, said = run("draw", text, given=b"chart 2\ncomplete yes\npair 0 1 at 2 2 2 2\nsteps 5\n")
             self.assertEqual((status, said), (0, ""))
             self.assertIn(b">0,1</text>", picture)
             status, _, said = run("draw", text, "-", given=b"chart 3\ncomplete yes\nsteps 4\n")

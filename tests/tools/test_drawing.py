@@ -5,7 +5,7 @@ import xml.etree.ElementTree as tree
 from math import dist
 
 import drawing
-from formats import Chart, Listing, Meeting, Piece, chart_of_text, listing_of_text
+from formats import At, Chart, Listing, Meeting, Piece, chart_of_text, listing_of_text
 
 SVG = "{http://www.w3.org/2000/svg}"
 
@@ -48,13 +48,13 @@ def off_line(point, mark):
 
 class Drawing(unittest.TestCase):
     def test_first_example(self):
-        picture = drawn("3 0 0 4 4\n3 0 4 4 0\n", "chart 2\ncomplete yes\npair 0 1 at 2 2\nsteps 5\n")
+        picture = drawn("3 0 0 4 4\n3 0 4 4 0\n", "chart 2\ncomplete yes\npair 0 1 at 2 2 2 2\nsteps 5\n")
         (ring,) = picture.marked("meeting")
         for piece in picture.marked("piece"):
             self.assertLess(off_line(numbers(ring, "cx", "cy"), piece), 0.2)
         self.assertEqual(picture.pairs(), ["0,1"])
         self.assertIn("1 pair of 2 pieces listed in 5 steps", picture.words())
-        self.assertEqual(ring.find(SVG + "title").text, "pair 0 1 at 2 2")
+        self.assertEqual(ring.find(SVG + "title").text, "pair 0 1 at 2 2 2 2")
 
     def test_speed_across_and_frequency_up(self):
         (piece,) = drawn("3 -5 100 7 900\n", "chart 1\ncomplete yes\nsteps 2\n").marked("piece")
@@ -92,7 +92,7 @@ class Drawing(unittest.TestCase):
 
     def test_overlaps(self):
         """A stretch is a band, and one shared point a ring."""
-        listing = "chart 3\ncomplete yes\npair 0 1 along 2 0 4 0\npair 1 2 at 6 0\nsteps 5\n"
+        listing = "chart 3\ncomplete yes\npair 0 1 along 2 0 4 0\npair 1 2 at 6 6 0 0\nsteps 5\n"
         picture = drawn("3 0 0 4 0\n3 2 0 6 0\n3 6 0 9 0\n", listing)
         pieces = [ends_of(mark) for mark in picture.marked("piece")]
         (stretch,) = picture.marked("overlap")
@@ -102,8 +102,26 @@ class Drawing(unittest.TestCase):
         self.assertEqual(numbers(ring, "cx", "cy"), pieces[1][1])
         self.assertEqual(picture.pairs(), ["0,1", "1,2"])
 
+    def test_a_cell_where_it_is_seen(self):
+        """The ring is in the middle of the cell, which holds the crossing, and whose sides are the units."""
+        picture = drawn("3 0 0 1 1\n3 0 1 2 0\n", "chart 2\ncomplete yes\npair 0 1 at 0 1 0 1\nsteps 5\n")
+        (cell,), (ring,) = picture.marked("cell"), picture.marked("meeting")
+        corners = [tuple(map(float, corner.split())) for corner in cell.get("d")[1:-2].split(" L")]
+        steep, falling = (ends_of(mark) for mark in picture.marked("piece"))
+        (left, bottom), (right, top) = steep
+        self.assertEqual(corners, [(left, top), (right, top), (right, bottom), (left, bottom)])
+        self.assertEqual(falling[0], (left, top))
+        x, y = numbers(ring, "cx", "cy")
+        self.assertAlmostEqual(x, (left + right) / 2, delta=0.1)
+        self.assertAlmostEqual(y, (top + bottom) / 2, delta=0.1)
+
+    def test_no_cell_of_a_whole_point_or_a_small_one(self):
+        listing = "chart 2\ncomplete yes\npair 0 1 at {}\nsteps 5\n"
+        for text, place in (("3 0 0 4 4\n3 0 4 4 0\n", "2 2 2 2"), ("3 0 0 4000 3999\n3 0 4 4000 0\n", "3 4 3 4")):
+            self.assertEqual(drawn(text, listing.format(place)).marked("cell"), [])
+
     def test_one_ring_for_one_place(self):
-        pairs = "".join(f"pair {a} {b} at 1 1\n" for a, b in itertools.combinations(range(3), 2))
+        pairs = "".join(f"pair {a} {b} at 1 1 1 1\n" for a, b in itertools.combinations(range(3), 2))
         picture = drawn("3 0 0 2 2\n3 0 1 2 1\n3 0 2 2 0\n", f"chart 3\ncomplete yes\n{pairs}steps 7\n")
         self.assertEqual(len(picture.marked("meeting")), 1)
         self.assertEqual(picture.pairs(), ["0,1", "0,2", "1,2"])
@@ -120,7 +138,8 @@ class Drawing(unittest.TestCase):
         """64 pieces of which every two meet, all at places of their own: each gets a ring, and labels stay inside."""
         pieces = [Piece(3, -32767, 1000 * i - 32000, 32767, 32000 - 1000 * i) for i in range(64)]
         pairs = list(itertools.combinations(range(64), 2))
-        meetings = [Meeting(pair, (1000 * pair[0] - 32000, 1000 * pair[1] - 32000)) for pair in pairs]
+        places = [[1000 * number - 32000 for number in pair] for pair in pairs]
+        meetings = [Meeting(pair, At(x, x, y, y)) for pair, (x, y) in zip(pairs, places)]
         picture = Picture(Chart(pieces), Listing(64, True, meetings, 2144))
         self.assertEqual(len(picture.marked("meeting")), len(pairs))
         self.assertEqual(picture.pairs(), sorted(f"{a},{b}" for a, b in pairs))
@@ -130,7 +149,7 @@ class Drawing(unittest.TestCase):
 
     def test_labels_stand_apart(self):
         """Few meetings with room around them: no label covers another."""
-        meetings = [Meeting((0, i + 1), (10 * i, 50)) for i in range(9)]
+        meetings = [Meeting((0, i + 1), At(10 * i, 10 * i, 50, 50)) for i in range(9)]
         pieces = [Piece(3, 0, 50, 90, 50), *(Piece(3, 10 * i, 0, 10 * i, 100) for i in range(9))]
         labels = Picture(Chart(pieces), Listing(10, True, meetings, 1)).marked("pair")
         places = [numbers(mark, "x", "y") for mark in labels]

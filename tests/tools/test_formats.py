@@ -4,7 +4,7 @@ import re
 import unittest
 from pathlib import Path
 
-from formats import LIMIT, MOST_PIECES, Chart, Meeting, Piece, Refused, Wrong
+from formats import LIMIT, MOST_PIECES, Along, At, Chart, Meeting, Piece, Refused, Wrong
 from formats import chart_of_file, chart_of_text, file_of_chart, listing_of_text, text_of_chart
 
 ROOT = Path(__file__).parents[2]
@@ -178,14 +178,14 @@ def reading(data):
 
 class Listings(unittest.TestCase):
     def test_scopes_example(self):
-        listing = listing_of_text(b"chart 2\ncomplete yes\npair 0 1 at 2 2\nsteps 5\n")
+        listing = listing_of_text(b"chart 2\ncomplete yes\npair 0 1 at 2 2 2 2\nsteps 5\n")
         self.assertEqual((listing.count, listing.complete, listing.steps), (2, True, 5))
-        self.assertEqual(listing.meetings, [Meeting((0, 1), (2, 2))])
+        self.assertEqual(listing.meetings, [Meeting((0, 1), At(2, 2, 2, 2))])
 
     def test_overlap_and_no_pairs(self):
         listing = listing_of_text(b"chart 3\ncomplete no\npair 1 2 along -1 0 4 0\nsteps 4\n")
         self.assertFalse(listing.complete)
-        self.assertEqual(listing.meetings, [Meeting((1, 2), (-1, 0, 4, 0))])
+        self.assertEqual(listing.meetings, [Meeting((1, 2), Along(-1, 0, 4, 0))])
         self.assertEqual(listing_of_text(b"chart 0\ncomplete yes\nsteps 0\n").meetings, [])
 
     def test_recorded_answers(self):
@@ -201,28 +201,38 @@ class Listings(unittest.TestCase):
         self.assertEqual(said, f"line 1: the chart was refused with 3: count above {MOST_PIECES}")
 
     def test_damaged(self):
-        sound = b"chart 3\ncomplete yes\npair 0 1 at 2 2\nsteps 5\n"
+        sound = b"chart 3\ncomplete yes\npair 0 1 at 1 2 2 2\nsteps 5\n"
         for old, new, said in (
             (sound, b"", "line 1: `chart` and a number are due"),
             (b"chart 3", b"chart x", "line 1: word 2 is 'x', which is not a whole number"),
             (b"yes", b"maybe", "line 2: `complete yes` or `complete no` is due"),
-            (b"at 2 2", b"at 2", "line 3: `pair a b at x y` or"),
-            (b"at 2 2", b"along 2 2", "line 3: `pair a b at x y` or"),
-            (b"at 2 2", b"along 2 2 2 2", "line 3: one shared point reads `at`, and `along` has two: an older program"),
-            (b"at 2 2", b"at 2 y", "line 3: word 6 is 'y', which is not a whole number"),
+            (b"at 1 2 2 2", b"at 1 2 2", "line 3: `pair a b at xlow xhigh ylow yhigh` or `pair a b along x1 y1 x2 y2` is due"),
+            (b"at 1 2 2 2", b"along 1 2", "line 3: `pair a b at xlow xhigh ylow yhigh` or"),
+            (b"at 1 2 2 2", b"at 1 2 2 y", "line 3: word 8 is 'y', which is not a whole number"),
+            (b"at 1 2 2 2", b"at 2 1 2 2", "line 3: a low unit and a high one are equal or next to each other"),
+            (b"at 1 2 2 2", b"at 1 2 2 4", "line 3: a low unit and a high one are equal or next to each other"),
             (b"0 1 at", b"1 0 at", "line 3: 1 0 is no pair of pieces below 3, lesser first"),
             (b"0 1 at", b"0 3 at", "line 3: 0 3 is no pair of pieces below 3, lesser first"),
-            (b"steps 5\n", b"", "line 3: `steps` and a number are due, not 'pair 0 1 at 2 2'"),
-            (b"steps 5\n", b"steps 5\nsteps 5\n", "line 4: `pair a b at x y` or"),
-            (b"pair 0 1 at 2 2\nsteps 5\n", b"", "line 3: `steps` and a number are due"),
+            (b"steps 5\n", b"", "line 3: `steps` and a number are due, not 'pair 0 1 at 1 2 2 2'"),
+            (b"steps 5\n", b"steps 5\nsteps 5\n", "line 4: `pair a b at xlow xhigh ylow yhigh` or"),
+            (b"pair 0 1 at 1 2 2 2\nsteps 5\n", b"", "line 3: `steps` and a number are due"),
         ):
             self.assertIn(said, told(listing_of_text, sound.replace(old, new)))
+
+    def test_older_programs(self):
+        """What an older program wrote is refused, and the sentence says why."""
+        for place, said in (
+            ("at 2 2", "line 3: two units of the speed and two of the frequency are due after `at`: an older program"),
+            ("along 2 2 2 2", "line 3: one shared point reads `at`, and `along` has two: an older program wrote it"),
+        ):
+            listing = f"chart 2\ncomplete yes\npair 0 1 {place}\nsteps 5\n"
+            self.assertIn(said, told(listing_of_text, listing.encode()))
 
 
 def rewritten(listing):
     rows = [f"chart {listing.count}", f"complete {'yes' if listing.complete else 'no'}"]
     for m in listing.meetings:
-        rows.append(f"pair {m.pair[0]} {m.pair[1]} {'along' if m.is_overlap() else 'at'} {' '.join(map(str, m.place))}")
+        rows.append(f"pair {m.pair[0]} {m.pair[1]} {m.place}")
     return "\n".join([*rows, f"steps {listing.steps}", ""])
 
 

@@ -5,6 +5,7 @@ import unittest
 from test_formats import ROOT, answers
 
 KEPT = ROOT / "tests/recorded/listings"
+MOST_TOLD = 20
 
 
 def kept(name):
@@ -18,11 +19,14 @@ def today():
 
 
 def lines_moved(name, old, new):
-    """The lines that differ, told as they are found. No line comes or goes."""
-    moved = [(a, b) for a, b in zip(old, new, strict=True) if a != b]
+    """The lines that differ, told as they are found, the first few of many. No line comes or goes; the listings of
+    charts that were added since stand at the end."""
+    moved = [(a, b) for a, b in zip(old, new[: len(old)], strict=True) if a != b]
     print(f"{name}: {len(moved)} of {len(old)} lines moved")
-    for a, b in moved:
+    for a, b in moved[:MOST_TOLD]:
         print(f"  {a:32}  {b}")
+    if len(moved) > MOST_TOLD:
+        print(f"  and {len(moved) - MOST_TOLD:,} more")
     return moved
 
 
@@ -30,7 +34,7 @@ class OnePointIsAPoint(unittest.TestCase):
     """2026-03: where two collinear pieces share a single point, the line says `at`; no other line moves."""
 
     def test_moved(self):
-        moved = lines_moved("2026-03", kept("until_2026-03"), today())
+        moved = lines_moved("2026-03", kept("until_2026-03"), kept("until_2026-04"))
         self.assertEqual(len(moved), 16)
         for old, new in moved:
             pair, place = old.split(" along ")
@@ -44,6 +48,27 @@ class OnePointIsAPoint(unittest.TestCase):
             if is_along:
                 x1, y1, x2, y2 = place.split()
                 self.assertNotEqual((x1, y1), (x2, y2))
+
+
+class NeitherSideIsRoundedAway(unittest.TestCase):
+    """2026-04: every `at` has two units for one; the nearest that stood there is one of them, and no other line moves."""
+
+    def test_moved(self):
+        before = kept("until_2026-04")
+        moved = lines_moved("2026-04", before, today())
+        self.assertEqual(len(moved), sum(" at " in line for line in before))
+        self.assertEqual(len(moved), 1619)
+        whole = 0
+        for old, new in moved:
+            pair, nearest = old.split(" at ")
+            x, y = map(int, nearest.split())
+            self.assertTrue(new.startswith(f"{pair} at "), new)
+            x_low, x_high, y_low, y_high = map(int, new.removeprefix(f"{pair} at ").split())
+            for low, at, high in ((x_low, x, x_high), (y_low, y, y_high)):
+                self.assertIn(at, (low, high))
+                self.assertIn(high - low, (0, 1))
+                whole += low == high
+        print(f"  {whole:,} of their {2 * len(moved):,} values are whole")
 
 
 if __name__ == "__main__":

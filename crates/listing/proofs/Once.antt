@@ -1,5 +1,5 @@
 -- The contract of `put_listing` allows one answer and one content of the lent bytes; so do those of what puts lines, words
--- and numbers, and that of the nearest unit allows one answer.
+-- and numbers, and that of the units on both sides of a value allows one answer.
 -- Assumes nothing.
 use mathlib.Core.Path.{_≡_, sym, ap, _∙_}
 use mathlib.Core.List.{List}
@@ -11,7 +11,7 @@ use Rattle.decimals.proofs.put_byte.Reads as put-byte
 use Rattle.decimals.proofs.put_word.Reads as put-word
 use Rattle.decimals.proofs.put_natural.Reads as put-natural
 use Rattle.decimals.proofs.put_integer.Reads as put-integer
-use Rattle.units.proofs.nearest_unit.Reads as nearest-unit
+use Rattle.units.proofs.units_of.Reads as units-of
 use Rattle.listing_lines.proofs.put_count.Reads as put-count
 use Rattle.listing_lines.proofs.put_complete.Reads as put-complete
 use Rattle.listing_lines.proofs.put_pairs.Reads as put-pairs
@@ -32,8 +32,8 @@ put-natural-once κ a x y s t h k = one-text h k
 pub put-integer-once : OneOutcome put-integer.Post (λ κ s. now (s .0))
 put-integer-once κ a x y s t h k = one-text h k
 
-pub nearest-unit-once : OneResult nearest-unit.Post
-nearest-unit-once κ a x y s t h k = h ∙ sym k
+pub units-of-once : OneResult units-of.Post
+units-of-once κ a x y s t h k = h ∙ sym k
 
 pub put-count-once : OneOutcome put-count.Post (λ κ s. now (s .0))
 put-count-once κ a x y s t h k = one-text h k

@@ -28,8 +28,8 @@ use Rattle.sweep.specs.Run.{run as run-of}
 use Rattle.sweep.specs.Ported.{isUpright, heightAbove, heightBelow, heightOrder, slopeOrder, rankOrder, ported}
 use Rattle.decimals.specs.Text.{ascii}
 use Rattle.decimals.specs.Decimal.{digits, decimal, signedDecimal}
-use Rattle.units.specs.Units.{floorOf, nearestUnit}
-use Rattle.listing_lines.specs.Lines.{countLine, completeLine, unitText, pointText, placeText, pairLine, pairLines}
+use Rattle.units.specs.Units.{lowOf, highOf}
+use Rattle.listing_lines.specs.Lines.{countLine, completeLine, numberText, pointText, endText, placeText, pairLine, pairLines}
 use Rattle.listing.specs.Listing.{chartLines, largest, chartText, textOf, listingOf}
 use Rattle.listing.proofs.Settled.{settled}
 
@@ -58,26 +58,26 @@ touch = pos 3 ∷ pos 0 ∷ pos 0 ∷ pos 2 ∷ pos 0 ∷ pos 3 ∷ pos 2 ∷ po
 
 record Runs : Type 0 where
   two-ends : (answer (ported 2 (pieceAt two)) 5) .ended ≡ true
-  two-text : textAt two 2 5 ≡ ascii "chart 2\ncomplete yes\npair 0 1 at 2 2\nsteps 5\n"
+  two-text : textAt two 2 5 ≡ ascii "chart 2\ncomplete yes\npair 0 1 at 2 2 2 2\nsteps 5\n"
   gap-ends : (answer (ported 3 (pieceAt gap)) 7) .ended ≡ true
-  gap-text : textAt gap 3 7 ≡ ascii "chart 3\ncomplete no\npair 0 1 at 0 3\nsteps 7\n"
+  gap-text : textAt gap 3 7 ≡ ascii "chart 3\ncomplete no\npair 0 1 at 0 0 3 3\nsteps 7\n"
   touch-ends : (answer (ported 2 (pieceAt touch)) 3) .ended ≡ true
-  touch-text : textAt touch 2 3 ≡ ascii "chart 2\ncomplete yes\npair 0 1 at 2 0\nsteps 3\n"
+  touch-text : textAt touch 2 3 ≡ ascii "chart 2\ncomplete yes\npair 0 1 at 2 2 0 0\nsteps 3\n"
   none-ends : (answer (ported 0 (pieceAt [])) 0) .ended ≡ true
   none-text : textAt [] 0 0 ≡ ascii "chart 0\ncomplete yes\nsteps 0\n"
   refused : countLine (ascii "refused ") 1 ≡ ascii "refused 1\n"
 
 runs : Runs
-unfolding two gap touch textAt order ratioOrder euclid gcdOf pointOrder common lowestOf det turnOf pointOf endOrder firstIncluded secondIncluded joinBy joinOf pieceOf run rise side leftBy leftmostOf rightBy rightmostOf within innerBetween stretchBy stretchOf touchOf turnTo opposed astrideOf intersectOf inBounds containsOf moment over cramerOf crossingOf outside numberAt kindOf coordinateOf pieceAt alongBy alongOf whereBy whereOf upto keep any place sort-into sort same-pair among pairs lesser-first adjacent-from adjacent meets same start ends beyond queue least-from least next list each starts finishes turns takes-part pieces report drop reported wait examine-free examine stay enter ranged examined step move-to move onwards is-none answer-of answer run-of isUpright heightAbove heightBelow heightOrder slopeOrder rankOrder ascii digits decimal signedDecimal floorOf nearestUnit countLine completeLine unitText pointText placeText pairLine pairLines chartLines
+unfolding two gap touch textAt order ratioOrder euclid gcdOf pointOrder common lowestOf det turnOf pointOf endOrder firstIncluded secondIncluded joinBy joinOf pieceOf run rise side leftBy leftmostOf rightBy rightmostOf within innerBetween stretchBy stretchOf touchOf turnTo opposed astrideOf intersectOf inBounds containsOf moment over cramerOf crossingOf outside numberAt kindOf coordinateOf pieceAt alongBy alongOf whereBy whereOf upto keep any place sort-into sort same-pair among pairs lesser-first adjacent-from adjacent meets same start ends beyond queue least-from least next list each starts finishes turns takes-part pieces report drop reported wait examine-free examine stay enter ranged examined step move-to move onwards is-none answer-of answer run-of isUpright heightAbove heightBelow heightOrder slopeOrder rankOrder ascii digits decimal signedDecimal lowOf highOf countLine completeLine numberText pointText endText placeText pairLine pairLines chartLines
 runs = record { two-ends = refl; two-text = refl; gap-ends = refl; gap-text = refl; touch-ends = refl; touch-text = refl; none-ends = refl; none-text = refl; refused = refl }
 
 record Table : Type 0 where
   -- "For bytes 02 03 00 00 08 08 03 00 08 08 00 it prints"
-  crossing : listingOf (0x02 ∷ 0x03 ∷ 0x00 ∷ 0x00 ∷ 0x08 ∷ 0x08 ∷ 0x03 ∷ 0x00 ∷ 0x08 ∷ 0x08 ∷ 0x00 ∷ []) ≡ ascii "chart 2\ncomplete yes\npair 0 1 at 2 2\nsteps 5\n"
+  crossing : listingOf (0x02 ∷ 0x03 ∷ 0x00 ∷ 0x00 ∷ 0x08 ∷ 0x08 ∷ 0x03 ∷ 0x00 ∷ 0x08 ∷ 0x08 ∷ 0x00 ∷ []) ≡ ascii "chart 2\ncomplete yes\npair 0 1 at 2 2 2 2\nsteps 5\n"
   -- "Upright gap"
-  upright-gap : chartText gap 3 ≡ ascii "chart 3\ncomplete no\npair 0 1 at 0 3\nsteps 7\n"
+  upright-gap : chartText gap 3 ≡ ascii "chart 3\ncomplete no\npair 0 1 at 0 0 3 3\nsteps 7\n"
   -- "One shared point is a point."
-  one-point : chartText touch 2 ≡ ascii "chart 2\ncomplete yes\npair 0 1 at 2 0\nsteps 3\n"
+  one-point : chartText touch 2 ≡ ascii "chart 2\ncomplete yes\npair 0 1 at 2 2 0 0\nsteps 3\n"
   -- "Empty file: 1. File 00: zero pieces."
   empty : listingOf [] ≡ ascii "refused 1\n"
   no-pieces : listingOf (0x00 ∷ []) ≡ ascii "chart 0\ncomplete yes\nsteps 0\n"

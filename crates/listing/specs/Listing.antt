@@ -44,8 +44,8 @@ listingOf file = textOf (readingOf file)
 abbrev pub deciding : ℕ
 deciding = suc longest
 
--- the longest text: "chart 64", "complete yes", 2,016 lines such as "pair 62 63 along -32767 -32767 -32766 -32766", and the
--- steps, of at most ten digits
+-- the longest text: "chart 64", "complete yes", 2,016 lines such as "pair 62 63 along -32767 -32767 -32766 -32766", which are
+-- longer than any "pair 62 63 at -32767 -32766 -32767 -32766", and the steps, of at most ten digits
 abbrev pub longestText : ℕ
 longestText = 9 + 13 + 2016 * 45 + 17
 

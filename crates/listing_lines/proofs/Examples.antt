@@ -14,8 +14,8 @@ use Rattle.place.specs.declared.Where.{Where}
 use Rattle.place.specs.Place.{alongBy, alongOf}
 use Rattle.decimals.specs.Text.{ascii}
 use Rattle.decimals.specs.Decimal.{digits, decimal, signedDecimal}
-use Rattle.units.specs.Units.{floorOf, nearestUnit}
-use Rattle.listing_lines.specs.Lines.{countLine, completeLine, unitText, pointText, placeText, pairLine}
+use Rattle.units.specs.Units.{lowOf, highOf}
+use Rattle.listing_lines.specs.Lines.{countLine, completeLine, numberText, pointText, endText, placeText, pairLine}
 
 abbrev point : ℤ → ℤ → ℕ → Point
 point x y d = record { x = x; y = y; d = d }
@@ -28,16 +28,17 @@ record Table : Type 0 where
   count : countLine (ascii "chart ") 2 ≡ ascii "chart 2\n"
   complete : completeLine true ≡ ascii "complete yes\n"
   not-complete : completeLine false ≡ ascii "complete no\n"
-  whole : pairLine (Where.At (point (pos 2) (pos 2) 1)) 0 1 ≡ ascii "pair 0 1 at 2 2\n"
-  thirds : pairLine (Where.At (point (pos 2) (negsuc 1) 3)) 0 1 ≡ ascii "pair 0 1 at 1 -1\n"
-  halves : pairLine (Where.At (point (pos 2961) (negsuc 2) 2)) 5 63 ≡ ascii "pair 5 63 at 1481 -1\n"
+  whole : pairLine (Where.At (point (pos 2) (pos 2) 1)) 0 1 ≡ ascii "pair 0 1 at 2 2 2 2\n"
+  thirds : pairLine (Where.At (point (pos 2) (negsuc 1) 3)) 0 1 ≡ ascii "pair 0 1 at 0 1 -1 0\n"
+  -- "A crossing at 1480.5"; "-3/2 gives -2 and -1"
+  halves : pairLine (Where.At (point (pos 2961) (negsuc 2) 2)) 5 63 ≡ ascii "pair 5 63 at 1480 1481 -2 -1\n"
   stretch : pairLine (Where.Along (point (negsuc 4) (pos 0) 1) (point (pos 2) (pos 0) 1)) 10 11 ≡ ascii "pair 10 11 along -5 0 2 0\n"
   -- "(0,0)-(2,0) and (2,0)-(5,0), kind 3": one shared point, and what a stretch on from it reads
-  one-point : pairLine (alongOf (joined (pos 2) (pos 2))) 0 1 ≡ ascii "pair 0 1 at 2 0\n"
+  one-point : pairLine (alongOf (joined (pos 2) (pos 2))) 0 1 ≡ ascii "pair 0 1 at 2 2 0 0\n"
   forward : pairLine (alongOf (joined (pos 2) (pos 3))) 0 1 ≡ ascii "pair 0 1 along 2 0 3 0\n"
 
 table : Table
-unfolding order ratioOrder pointOrder pointOf endOrder alongBy alongOf countLine completeLine unitText pointText placeText pairLine ascii digits decimal signedDecimal floorOf nearestUnit
+unfolding order ratioOrder pointOrder pointOf endOrder alongBy alongOf countLine completeLine numberText pointText endText placeText pairLine ascii digits decimal signedDecimal lowOf highOf
 table = record {
   count = refl;
   complete = refl;

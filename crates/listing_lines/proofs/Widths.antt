@@ -1,4 +1,4 @@
--- How long a line is: a pair's has at most 45 bytes.
+-- How long a line is: a pair's has at most 45 bytes, one of an At at most 42.
 -- Assumes nothing.
 use mathlib.Core.Path.{_≡_, refl}
 use mathlib.Core.Bool.{Bool, true, false}
@@ -23,9 +23,9 @@ use Rattle.place.proofs.Held.{StretchInRange, overlap, meeting-in}
 use Rattle.decimals.specs.Text.{ascii}
 use Rattle.decimals.specs.Decimal.{signedDecimal}
 use Rattle.decimals.proofs.Digits.{short}
-use Rattle.units.specs.Units.{nearestUnit}
-use Rattle.units.proofs.Best.{stays-within}
-use Rattle.listing_lines.specs.Lines.{countLine, completeLine, unitText, pointText, placeText, pairLine}
+use Rattle.units.specs.Units.{lowOf, highOf}
+use Rattle.units.proofs.Sides.{stays-within}
+use Rattle.listing_lines.specs.Lines.{countLine, completeLine, numberText, pointText, endText, placeText, pairLine}
 
 -- ---- numbers
 signed-width : (z : ℤ) → natAbs z ≤ 2 ^ 15 → length (signedDecimal z) ≤ 6
@@ -33,24 +33,37 @@ unfolding signedDecimal
 signed-width (pos n) h = omega (arith, short n 4 (omega arith))
 signed-width (negsuc n) h = omega (arith, short (suc n) 4 (omega arith))
 
-unit-width : (x : ℤ) (d : ℕ) → natAbs x ≤ 2 ^ 15 * d → length (unitText x d) ≤ 7
-unfolding unitText ascii
-unit-width x d h = omega (arith, signed-width (nearestUnit x d) (stays-within x d (2 ^ 15) h))
+number-width : (z : ℤ) → natAbs z ≤ 2 ^ 15 → length (numberText z) ≤ 7
+unfolding numberText ascii
+number-width z h = omega (arith, signed-width z h)
+
+low-width : (x : ℤ) (d : ℕ) → natAbs x ≤ 2 ^ 15 * d → length (numberText (lowOf x d)) ≤ 7
+low-width x d h = number-width (lowOf x d) (stays-within x d (2 ^ 15) h .0)
+
+high-width : (x : ℤ) (d : ℕ) → natAbs x ≤ 2 ^ 15 * d → length (numberText (highOf x d)) ≤ 7
+high-width x d h = number-width (highOf x d) (stays-within x d (2 ^ 15) h .1)
 
 -- ---- points and places
 record Charted (p : Point) : Type 0 where
   x : natAbs (p .x) ≤ 2 ^ 15 * p .d
   y : natAbs (p .y) ≤ 2 ^ 15 * p .d
 
-point-width : (p : Point) → Charted p → length (pointText p) ≤ 14
+point-width : (p : Point) → Charted p → length (pointText p) ≤ 28
 unfolding pointText
-point-width p h = omega (arith, length-append (unitText (p .x) (p .d)) (unitText (p .y) (p .d)), unit-width (p .x) (p .d) (h .x), unit-width (p .y) (p .d) (h .y))
+point-width p h =
+    rw (length-append, length-append, length-append)
+    (omega (arith, low-width (p .x) (p .d) (h .x), high-width (p .x) (p .d) (h .x), low-width (p .y) (p .d) (h .y), high-width (p .y) (p .d) (h .y)))
+
+end-width : (p : Point) → Charted p → length (endText p) ≤ 14
+unfolding endText
+end-width p h =
+    rw length-append (omega (arith, low-width (p .x) (p .d) (h .x), low-width (p .y) (p .d) (h .y)))
 
 place-width : (w : Where) → All Charted w → length (placeText w) ≤ 34
 unfolding placeText ascii
 place-width Where.Nothing h = omega arith
 place-width (Where.At p) h = omega (arith, point-width p h)
-place-width (Where.Along p q) h = omega (arith, length-append (pointText p) (pointText q), point-width p (h .0), point-width q (h .1))
+place-width (Where.Along p q) h = omega (arith, length-append (endText p) (endText q), end-width p (h .0), end-width q (h .1))
 
 -- a crossing lies on both pieces, and an overlap's ends are theirs
 end-charted : (x y : ℤ) → natAbs x ≤ 2 ^ 15 → natAbs y ≤ 2 ^ 15 → Charted (record { x = x; y = y; d = 1 })

@@ -11,7 +11,7 @@ use Rattle.place.specs.Place.{whereOf}
 use Rattle.sweep.specs.Lists.{Pair}
 use Rattle.decimals.specs.Text.{ascii}
 use Rattle.decimals.specs.Decimal.{decimal, signedDecimal}
-use Rattle.units.specs.Units.{nearestUnit}
+use Rattle.units.specs.Units.{lowOf, highOf}
 
 -- a word and a number: "chart 2", "steps 5", "refused 1"
 unfoldable pub countLine : List ℕ → ℕ → List ℕ
@@ -22,18 +22,25 @@ unfoldable pub completeLine : Bool → List ℕ
 completeLine true = ascii "complete yes\n"
 completeLine false = ascii "complete no\n"
 
--- "the speed and frequency, each the nearest whole unit to the exact value, halves to the larger"
-unfoldable pub unitText : ℤ → ℕ → List ℕ
-unitText x d = ascii " " ++ signedDecimal (nearestUnit x d)
+-- a space and a number
+unfoldable pub numberText : ℤ → List ℕ
+numberText z = ascii " " ++ signedDecimal z
 
+-- "at xlow xhigh ylow yhigh": "the greatest whole unit not above the exact value and the least not below it"
 unfoldable pub pointText : Point → List ℕ
-pointText p = unitText (p .x) (p .d) ++ unitText (p .y) (p .d)
+pointText p =
+    numberText (lowOf (p .x) (p .d)) ++ numberText (highOf (p .x) (p .d))
+    ++ numberText (lowOf (p .y) (p .d)) ++ numberText (highOf (p .y) (p .d))
+
+-- an overlap's end is whole, and so its own unit
+unfoldable pub endText : Point → List ℕ
+endText p = numberText (lowOf (p .x) (p .d)) ++ numberText (lowOf (p .y) (p .d))
 
 -- "An overlap reads `pair a b along x1 y1 x2 y2`"; one of a single point is At, as a crossing is
 unfoldable pub placeText : Where → List ℕ
 placeText Where.Nothing = []
 placeText (Where.At p) = ascii " at" ++ pointText p
-placeText (Where.Along p q) = ascii " along" ++ pointText p ++ pointText q
+placeText (Where.Along p q) = ascii " along" ++ endText p ++ endText q
 
 -- "the lesser and greater number": of a pair a, b whose pieces meet there
 unfoldable pub pairLine : Where → ℕ → ℕ → List ℕ

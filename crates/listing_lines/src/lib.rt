@@ -3,7 +3,7 @@ ghost use mathlib.Core.Path.{_≡_};
 ghost use Rattle.decimals.specs.Text.{text as Text·text, put};
 ghost use Rattle.charts.specs.Piece.{pieceAt};
 ghost use Rattle.place.specs.Place.{whereOf};
-ghost use Rattle.listing_lines.specs.Lines.{countLine, completeLine, unitText, pointText, placeText, pairLine, pairsIn, pairLines};
+ghost use Rattle.listing_lines.specs.Lines.{countLine, completeLine, numberText, pointText, endText, placeText, pairLine, pairsIn, pairLines};
 use fractions::Point;
 use place::Where;
 
@@ -25,19 +25,34 @@ pub fn put_complete(text: &mut [u8], end: usize, complete: bool) -> usize
     decimals::put_word(text, end, b"complete no\n")
 }
 
-// x/d in whole units.
-fn put_unit(text: &mut [u8], end: usize, x: i64, d: u64) -> usize
-    ensures { λ r. ⌜ Text·text (now (text .exit)) r ≡ put (unitText x d) (Text·text (now (text .entry)) end) ⌝ }
+// A space and a number.
+fn put_number(text: &mut [u8], end: usize, z: i64) -> usize
+    ensures { λ r. ⌜ Text·text (now (text .exit)) r ≡ put (numberText z) (Text·text (now (text .entry)) end) ⌝ }
 {
     let spaced = decimals::put_byte(text, end, b' ');
-    decimals::put_integer(text, spaced, units::nearest_unit(x, d))
+    decimals::put_integer(text, spaced, z)
 }
 
+// The whole units between which a point's speed lies, and then its frequency.
 fn put_point(text: &mut [u8], end: usize, p: Point) -> usize
     ensures { λ r. ⌜ Text·text (now (text .exit)) r ≡ put (pointText p) (Text·text (now (text .entry)) end) ⌝ }
 {
-    let across = put_unit(text, end, p.x, p.d);
-    put_unit(text, across, p.y, p.d)
+    let speed = units::units_of(p.x, p.d);
+    let frequency = units::units_of(p.y, p.d);
+    let from = put_number(text, end, speed.low);
+    let across = put_number(text, from, speed.high);
+    let up = put_number(text, across, frequency.low);
+    put_number(text, up, frequency.high)
+}
+
+// An end of an overlap, which is whole.
+fn put_end(text: &mut [u8], end: usize, p: Point) -> usize
+    ensures { λ r. ⌜ Text·text (now (text .exit)) r ≡ put (endText p) (Text·text (now (text .entry)) end) ⌝ }
+{
+    let x = units::units_of(p.x, p.d);
+    let y = units::units_of(p.y, p.d);
+    let across = put_number(text, end, x.low);
+    put_number(text, across, y.low)
 }
 
 // Where two pieces meet.
@@ -52,8 +67,8 @@ fn put_place(text: &mut [u8], end: usize, w: Where) -> usize
         }
         Where::Along(p, q) => {
             let said = decimals::put_word(text, end, b" along");
-            let from = put_point(text, said, p);
-            put_point(text, from, q)
+            let from = put_end(text, said, p);
+            put_end(text, from, q)
         }
     }
 }

@@ -1,12 +1,12 @@
 -- Whole numbers divided by d, with a rest from 0 up to d: `divided`, and only one way of it.
 -- Assumes nothing.
 use mathlib.Core.Path.{_≡_, sym, ap}
-use Prim.Native.Nat.{ℕ, _-_, _/_, _%_, _<_}
+use Prim.Native.Nat.{ℕ, zero, suc, _-_, _/_, _%_, _<_}
 use native.Mathlib.Nat.{mod-lt, div-add-mod'}
 use native.Mathlib.Omega.{arith}
 use lib.IntN.{ℤ, pos, negsuc}
 use Rattle.integers.proofs.Linear.{linear, ≡-goal}
-use Rattle.units.specs.Units.{floorOf, Divided}
+use Rattle.units.specs.Units.{lowOf, Divided}
 
 module _ (n d : ℕ) (h : 0 < d) where
   pub divided-above : Divided (pos n) d (pos (n / d)) (n % d)
@@ -20,7 +20,8 @@ module _ (n d : ℕ) (h : 0 < d) where
         rest-below = omega arith;
       }
 
-pub divided : (z : ℤ) (d : ℕ) → 0 < d → (rest : ℕ) × Divided z d (floorOf z d) rest
-unfolding floorOf
-divided (pos n) d h = (n % d, divided-above n d h)
-divided (negsuc n) d h = (d - 1 - n % d, divided-below n d h)
+pub divided : (z : ℤ) (d : ℕ) → 0 < d → (rest : ℕ) × Divided z d (lowOf z d) rest
+unfolding lowOf
+divided z zero h = absurd (omega arith)
+divided (pos n) (suc d) h = (n % suc d, divided-above n (suc d) h)
+divided (negsuc n) (suc d) h = (suc d - 1 - n % suc d, divided-below n (suc d) h)

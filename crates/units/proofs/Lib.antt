@@ -1,9 +1,8 @@
 -- From another crate: `use Rattle.units.proofs.FILE.{..}`.
---   the statements of specs/Demand         Rounding   rounds-exactly, whole-stays;  Best   rounds-to-best, stays-within
+--   the statements of specs/Demand         Sides      low-exactly, high-exactly and their kin
 --   a whole part and a rest                Division   divided
 --   inside: what the code holds            Signed
 pub mod Division
-pub mod Rounding
-pub mod Best
+pub mod Sides
 pub mod Signed
 mod Examples

@@ -55,11 +55,11 @@ above (pos n) d f h e l =
 up-one : (n : ℕ) → negsuc (suc n) +ℤ pos 1 ≡ negsuc n
 up-one n = ≡-goal (search linear depth 60 fits 20000) (omega arith)
 
--- ---- rounded up: where the rest is half of d or more, x is larger than its whole part
-pub rounds-up-fits : (x w : ℤ) (d r : ℕ) → SFits w64 x → SFits w64 w → Divided x d w r → d - r ≤ r → SFits w64 (w +ℤ pos 1)
-rounds-up-fits x (negsuc zero) d r f k h l = record { sfits = lit< tt }
-rounds-up-fits x (negsuc (suc n)) d r f k h l = rw (up-one n) (record { sfits = lt-of-le-of-lt (le-of-lt (lt-suc-self n)) (k .sfits) })
-rounds-up-fits x (pos n) d r f k h l =
+-- ---- one more: where there is a rest, x is larger than its whole part
+pub one-more-fits : (x w : ℤ) (d r : ℕ) → SFits w64 x → SFits w64 w → Divided x d w r → 0 < r → SFits w64 (w +ℤ pos 1)
+one-more-fits x (negsuc zero) d r f k h l = record { sfits = lit< tt }
+one-more-fits x (negsuc (suc n)) d r f k h l = rw (up-one n) (record { sfits = lt-of-le-of-lt (le-of-lt (lt-suc-self n)) (k .sfits) })
+one-more-fits x (pos n) d r f k h l =
     let small : n * d + r < 2 ^ 63 = rw (h .is) at (f .sfits) in
     let b = h .rest-below in
     let some : 1 ≤ d = omega arith in

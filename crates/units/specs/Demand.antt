@@ -1,35 +1,39 @@
--- What is promised of the nearest whole unit, over whole numbers.
+-- What is promised of the two whole units between which a fraction x / d lies, over whole numbers.
 use mathlib.Core.Path.{_≡_}
 use mathlib.Core.Logic.{_↔_}
 use Prim.Native.Nat.{ℕ, _*_, _<_, _≤_}
 use lib.IntN.{ℤ, pos, natAbs, _+ℤ_, _-ℤ_, _*ℤ_}
 use lib.Signed.{_≤ℤ_, _<ℤ_}
-use Rattle.units.specs.Units.{nearestUnit}
+use Rattle.units.specs.Units.{lowOf, highOf}
 
--- w is x / d + 1 / 2 without its fraction, times 2 d: "the nearest whole unit .., halves to the larger"
-pub record Nearest (x : ℤ) (d : ℕ) (w : ℤ) : Type 0 where
-  pub not-above : (pos 2 *ℤ pos d *ℤ w) ≤ℤ (pos 2 *ℤ x +ℤ pos d)
-  pub next-above : (pos 2 *ℤ x +ℤ pos d) <ℤ (pos 2 *ℤ pos d *ℤ (w +ℤ pos 1))
+-- "the greatest whole unit not above the exact value": x / d is at least w and below w + 1, times d
+pub record Low (x : ℤ) (d : ℕ) (w : ℤ) : Type 0 where
+  pub not-above : (w *ℤ pos d) ≤ℤ x
+  pub greatest : x <ℤ ((w +ℤ pos 1) *ℤ pos d)
 
-abbrev pub RoundsExactly : Type 0
-RoundsExactly = (x : ℤ) (d : ℕ) → 0 < d → (w : ℤ) → (nearestUnit x d ≡ w) ↔ Nearest x d w
+abbrev pub LowExactly : Type 0
+LowExactly = (x : ℤ) (d : ℕ) → 0 < d → (w : ℤ) → (lowOf x d ≡ w) ↔ Low x d w
 
--- how far v lies from x / d, times d
-abbrev pub apart : ℤ → ℕ → ℤ → ℕ
-apart x d v = natAbs (v *ℤ pos d -ℤ x)
+-- "the least not below it": x / d is above w - 1 and at most w, times d
+pub record High (x : ℤ) (d : ℕ) (w : ℤ) : Type 0 where
+  pub not-below : x ≤ℤ (w *ℤ pos d)
+  pub least : ((w -ℤ pos 1) *ℤ pos d) <ℤ x
 
--- no whole number lies nearer, and one that lies as near is not larger
-pub record Best (x : ℤ) (d : ℕ) (w : ℤ) : Type 0 where
-  pub none-nearer : (v : ℤ) → apart x d w ≤ apart x d v
-  pub none-larger : (v : ℤ) → apart x d v ≤ apart x d w → v ≤ℤ w
+abbrev pub HighExactly : Type 0
+HighExactly = (x : ℤ) (d : ℕ) → 0 < d → (w : ℤ) → (highOf x d ≡ w) ↔ High x d w
 
-abbrev pub RoundsToBest : Type 0
-RoundsToBest = (x : ℤ) (d : ℕ) → 0 < d → Best x d (nearestUnit x d)
+-- "equal when the value is whole", and only then: d divides x
+abbrev pub EqualWhenWhole : Type 0
+EqualWhenWhole = (x : ℤ) (d : ℕ) → 0 < d → (lowOf x d ≡ highOf x d) ↔ ((w : ℤ) × (x ≡ w *ℤ pos d))
 
--- a whole number is its own unit
+-- no whole unit lies strictly between the two
+abbrev pub NoneBetween : Type 0
+NoneBetween = (x : ℤ) (d : ℕ) → 0 < d → (v : ℤ) → lowOf x d <ℤ v → v <ℤ highOf x d → ⊥
+
+-- a whole number is its own unit on both sides
 abbrev pub WholeStays : Type 0
-WholeStays = (x : ℤ) → nearestUnit x 1 ≡ x
+WholeStays = (x : ℤ) → (lowOf x 1 ≡ x) × (highOf x 1 ≡ x)
 
--- a fraction that is no larger than a whole number in size has no larger unit
+-- a fraction that is no larger than a whole number in size has no larger units
 abbrev pub StaysWithin : Type 0
-StaysWithin = (x : ℤ) (d m : ℕ) → natAbs x ≤ m * d → natAbs (nearestUnit x d) ≤ m
+StaysWithin = (x : ℤ) (d m : ℕ) → natAbs x ≤ m * d → (natAbs (lowOf x d) ≤ m) × (natAbs (highOf x d) ≤ m)

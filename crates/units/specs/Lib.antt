@@ -1,4 +1,4 @@
--- Fractions in whole units: `Units` defines the nearest one, `Demand` says what nearest means.
--- In quotation marks: docs/CHART.md, listing.
+-- Fractions in whole units: `Units` defines the two between which a fraction lies, `Demand` says what that means.
+-- In quotation marks: docs/CHART.md, two units.
 pub mod Units
 pub mod Demand

@@ -1,7 +1,13 @@
-// The whole unit nearest to a fraction of whole numbers.
+// The whole units between which a fraction of whole numbers lies.
 ghost use mathlib.Core.Path.{_≡_};
 ghost use Prim.Native.Nat.{_<_};
-ghost use Rattle.units.specs.Units.{Divided, nearestUnit};
+ghost use Rattle.units.specs.Units.{Divided, unitsOf};
+
+// The greatest whole unit not above a value and the least not below it.
+pub struct Between {
+    pub low: i64,
+    pub high: i64,
+}
 
 // The greatest whole number not above a fraction, and what is left above the line.
 struct Parts {
@@ -27,15 +33,15 @@ fn divide(x: i64, d: u64) -> Parts
     }
 }
 
-// x/d, to the nearest whole unit, halves to the larger; 0 where nothing is under the line.
-pub fn nearest_unit(x: i64, d: u64) -> i64
-    ensures { λ r. ⌜ r ≡ nearestUnit x d ⌝ }
+// x/d between two whole units, which are one where d divides x; 0 where nothing is under the line.
+pub fn units_of(x: i64, d: u64) -> Between
+    ensures { λ r. ⌜ r ≡ unitsOf x d ⌝ }
 {
     if d == 0 {
-        return 0;
+        return Between { low: 0, high: 0 };
     }
     let parts = divide(x, d);
-    let whole = parts.whole;
-    let rest = parts.rest;
-    if rest < d - rest { whole } else { whole + 1 }
+    let low = parts.whole;
+    let high = if parts.rest == 0 { low } else { low + 1 };
+    Between { low, high }
 }

@@ -24,7 +24,7 @@ returns-3 c =
     let upto = c .before .before in
     let from = upto .before .before .before .before in
     let said = from .before .before .before .before in
-    put-as _ _ _ (put-then _ _ _ (put-then _ _ _ (said .put-word2 .ensures) (from .put-point2 .ensures)) (upto .put-point3 .ensures))
+    put-as _ _ _ (put-then _ _ _ (put-then _ _ _ (said .put-word2 .ensures) (from .put-end .ensures)) (upto .put-end2 .ensures))
     (ap placeText (sym (said .before .before .before .before .w2 .given .1)))
 
 pub put-place-spec : {M : Type 1} → statement M

@@ -1,26 +1,40 @@
--- `put_point` meets its contract: across, and then up.
+-- `put_point` meets its contract: across, low and high, and then up.
 use borrow.Author.Needs.{needs}
-use mathlib.Core.Path.{ap₂}
 use mathlib.Core.List.{_++_}
-use lib.IntN.{ℤ}
-use mir.Syntax.{w64}
-use mir.Facts.{toZ-ofZ}
 use Rattle.decimals.proofs.Puts.{put-then, put-as}
-use Rattle.listing_lines.specs.Lines.{unitText, pointText}
+use Rattle.listing_lines.specs.Lines.{numberText, pointText}
+use Rattle.listing_lines.proofs.Found.{low-found, high-found}
 use Rattle.listing_lines.proofs.put_point.Statement.{statement}
 use Rattle.listing_lines.proofs.put_point.Tie as tie
 
 returns : tie.Need-returns
 unfolding pointText
 returns c =
-    let up = c .before .before in
-    let across = up .before .before .before .before .before in
-    let p = across .before .before .before .before .args .p in
-    let told = across .before .struct-told .given in
-    put-as _ _ _ (put-then _ _ _ (across .put-unit .ensures) (up .put-unit2 .ensures))
-    (ap₂ (λ (x y : ℤ). unitText x (p .d) ++ unitText y (p .d))
-    (toZ-ofZ {w = w64} {z = p .x} (record { sfits = told .0 .1 }))
-    (toZ-ofZ {w = w64} {z = p .y} (record { sfits = told .1 .0 .1 })))
+    let yhigh = c .before .before in
+    let ylow = yhigh .before .before .before .before .before in
+    let xhigh = ylow .before .before .before .before .before in
+    let xlow = xhigh .before .before .before .before .before in
+    let y = xlow .before .before .before in
+    let x = y .before .before in
+    let p = x .before .before .before .args .p in
+    let told = x .before .struct-told .given in
+    let x-is = low-found (x .units-of .result) (p .x) (p .d) (record { sfits = told .0 .1 }) (x .units-of .ensures) (record { sfits = xlow .before .struct-told3 .given .0 .1 }) in
+    let x-has = high-found (x .units-of .result) (p .x) (p .d) (record { sfits = told .0 .1 }) (x .units-of .ensures) (record { sfits = xhigh .before .struct-told4 .given .1 .0 .1 }) in
+    let y-is = low-found (y .units-of2 .result) (p .y) (p .d) (record { sfits = told .1 .0 .1 }) (y .units-of2 .ensures) (record { sfits = ylow .before .struct-told5 .given .0 .1 }) in
+    let y-has = high-found (y .units-of2 .result) (p .y) (p .d) (record { sfits = told .1 .0 .1 }) (y .units-of2 .ensures) (record { sfits = yhigh .before .struct-told6 .given .1 .0 .1 }) in
+    put-as _ _ _
+    (put-then _ _ _ (put-then _ _ _ (put-then _ _ _ (xlow .put-number .ensures) (xhigh .put-number2 .ensures)) (ylow .put-number3 .ensures)) (yhigh .put-number4 .ensures))
+    (λ i. numberText (x-is i) ++ numberText (x-has i) ++ numberText (y-is i) ++ numberText (y-has i))
 
 pub put-point-spec : {M : Type 1} → statement M
-put-point-spec = tie.close (tie.spec (λ c κs. search needs) (λ c κs. search needs) (λ c. search needs) returns)
+put-point-spec =
+    tie.close
+    (tie.spec
+    (λ c κs. search needs)
+    (λ c κs. search needs)
+    (λ c κs. search needs)
+    (λ c κs. search needs)
+    (λ c κs. search needs)
+    (λ c κs. search needs)
+    (λ c. search needs)
+    returns)

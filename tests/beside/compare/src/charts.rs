@@ -192,8 +192,27 @@ pub fn near_ties(random: &mut Random) -> Chart {
   })
 }
 
-/// Two pieces that cross at an x as near to half way between two binary64 values as its D allows.
+/// Two pieces that cross at an x as near to half way between two binary64 values as its D allows: X 2^(53 - digits)
+/// is an odd multiple of D and 1 more or less.
 pub fn near_halves(random: &mut Random) -> Chart {
+  crossing_at(random, |d, digits, side| {
+    let half = inverse(2, d)?;
+    Some((0..52 - digits).fold((d + side) / 2 % d, |v, _| v * half % d))
+  })
+}
+
+/// Two pieces that cross at an x or a y as near to a whole number as its D allows, on either side of it and of zero.
+pub fn near_wholes(random: &mut Random) -> Chart {
+  let chart = crossing_at(random, |d, _, side| Some(side.rem_euclid(d)));
+  let turned = |[kind, x1, y1, x2, y2]: Piece| [kind, y1, x1, y2, x2];
+  match random.pick(&[false, true]) {
+    true => chart.into_iter().map(turned).collect(),
+    false => chart,
+  }
+}
+
+/// Two pieces that cross at X over D, with `rest` of D, of digits and of a side as what X leaves over D.
+fn crossing_at(random: &mut Random, rest: fn(i128, i32, i128) -> Option<i128>) -> Chart {
   loop {
     let digits = random.between(0, 14);
     let x = random.between(1 << digits, (2 << digits) - 1);
@@ -202,7 +221,10 @@ pub fn near_halves(random: &mut Random) -> Chart {
     let (r, s) = (part(1 << digits), part(20_000));
     let (t, u) = (part(16_000), -part(20_000));
     let (side, mirror) = (random.pick(&[-1, 1]), random.pick(&[-1, 1]));
-    if let Some([x1, y1]) = near_half([x, y, r, s, t, u].map(i128::from), digits, side) {
+    let six = [x, y, r, s, t, u].map(i128::from);
+    let d = i128::from(s * t - r * u);
+    let begins = |rest| beginning(six, digits, rest);
+    if let Some([x1, y1]) = rest(d, digits, side).and_then(begins) {
       let piece = |x, y, run, rise| [3, mirror * x, y, mirror * (x + run), y + rise];
       return vec![piece(x, y, r, s), piece(x1, y1, t, u)];
     }
@@ -210,11 +232,9 @@ pub fn near_halves(random: &mut Random) -> Chart {
 }
 
 /// Where a piece begins that goes t to the right and u up and crosses the piece from x, y, which goes r and s,
-/// at X over D with X 2^(53 - digits) an odd multiple of D and 1 more or less; none where there is none.
-fn near_half([x, y, r, s, t, u]: [i128; 6], digits: i32, side: i128) -> Option<[i32; 2]> {
+/// at X over D with X leaving `rest`; none where there is none.
+fn beginning([x, y, r, s, t, u]: [i128; 6], digits: i32, rest: i128) -> Option<[i32; 2]> {
   let d = s * t - r * u;
-  let half = inverse(2, d)?;
-  let rest = (0..52 - digits).fold((d + side) / 2 % d, |v, _| v * half % d);
   // X is `rest` modulo D, and modulo r what the first piece has it be
   let own = t * (r * y - x * s);
   let whole = (-own - rest) * inverse(d, r)?;

@@ -150,6 +150,10 @@ fn gate(share: usize) -> Vec<Family> {
       random("half-way", GATE_SEED, 2_000, charts::near_halves),
       share,
     ),
+    thinned(
+      random("near-whole", GATE_SEED, 2_000, charts::near_wholes),
+      share,
+    ),
     random("any-size", GATE_SEED, 300, charts::any_size),
     random("full-size", GATE_SEED, 1_000, charts::full_size),
   ]
@@ -179,6 +183,7 @@ fn long(seed: u64, count: usize) -> Vec<Family> {
     random("extreme", seed, count, charts::extreme),
     random("near-tied", seed, count, charts::near_ties),
     random("half-way", seed, count, charts::near_halves),
+    random("near-whole", seed, count, charts::near_wholes),
     random("any-size", seed, count, charts::any_size),
     random("full-size", seed, count, charts::full_size),
   ]

@@ -83,6 +83,7 @@ fn charts_of_any_count() -> Vec<Chart> {
   small
     .chain(wide)
     .chain(random(10, charts::full_size))
+    .chain(random(40, charts::near_wholes))
     .collect()
 }
 
@@ -160,11 +161,10 @@ fn listing(chart: &Chart) -> String {
   let run = original.run();
   let mut text = format!("chart {}\ncomplete {}\n", chart.len(), complete(chart));
   for (a, b) in run.list {
-    let units = |p: &Point| format!("{} {}", unit(p.x, p.d), unit(p.y, p.d));
     let place = match &points(&original, a, b)[..] {
       [] => unreachable!("listed pairs meet"),
-      [p] => format!("at {}", units(p)),
-      [p, .., q] => format!("along {} {}", units(p), units(q)),
+      [p] => format!("at {} {}", units(p.x, p.d), units(p.y, p.d)),
+      [p, .., q] => format!("along {} {} {} {}", p.x, p.y, q.x, q.y),
     };
     let _ = writeln!(text, "pair {a} {b} {place}");
   }
@@ -172,9 +172,10 @@ fn listing(chart: &Chart) -> String {
   text
 }
 
-/// "the nearest whole unit to the exact value, halves to the larger"
-fn unit(v: i128, d: i128) -> i128 {
-  (2 * v + d).div_euclid(2 * d)
+/// "the greatest whole unit not above the exact value and the least not below it"
+fn units(v: i128, d: i128) -> String {
+  let (low, high) = (v.div_euclid(d), -(-v).div_euclid(d));
+  format!("{low} {high}")
 }
 
 fn complete(chart: &Chart) -> &'static str {
