@@ -31,9 +31,9 @@ use Rattle.ported_arrays.proofs.Flat.{flat-length}
 use Rattle.ported_arrays.proofs.Nexts.{next-agrees}
 use Rattle.sweep_geometry.proofs.Accepted.{upright-same}
 use Rattle.ported_pieces.specs.Table.{pieceIn, chartIn}
-use Rattle.ported_pieces.specs.Filled.{filled}
+use Rattle.ported_table.specs.Filled.{filled}
 use Rattle.ported_pieces.proofs.Ordering.{ordered}
-use Rattle.ported_pieces.proofs.Filling.{filled-pieces}
+use Rattle.ported_table.proofs.Filling.{filled-pieces}
 use Rattle.bentley_ottmann.specs.declared.run.Stop.{Stop}
 use Rattle.bentley_ottmann.specs.declared.Swept.{Swept}
 use Rattle.bentley_ottmann.specs.Swept.{asLast, sweptBy, listedOver, refusedWith, sweepOf, lentAfter}

@@ -34,14 +34,15 @@ use Rattle.ported_arrays.proofs.Flat.{flat-length}
 use Rattle.ported_arrays.proofs.Simulation.{run-agrees}
 use Rattle.ported_pieces.specs.Table.{pieceIn, chartIn}
 use Rattle.ported_pieces.proofs.Ordering.{ordered}
-use Rattle.ported_active.specs.Joined.{AllBelow}
+use Rattle.ported_gather.specs.Joined.{AllBelow}
 use Rattle.ported_queue.specs.declared.Next.{Next}
 use Rattle.ported_queue.specs.declared.Next.the-variants.{Nothing}
 use Rattle.ported_queue.specs.declared.Next.the-variants.{At as NextAt}
 use Rattle.ported_queue.specs.Next.{asNext, nextBy}
 use Rattle.bentley_ottmann.specs.declared.Last.{Last}
 use Rattle.bentley_ottmann.specs.declared.Last.the-variants.{None, At}
-use Rattle.ported_step.specs.Views.{ledger, sheet}
+use Rattle.ported_ledger.specs.Views.{ledger}
+use Rattle.ported_step.specs.Views.{sheet}
 use Rattle.bentley_ottmann.specs.Swept.{asLast}
 use Rattle.bentley_ottmann.specs.Running.{places, lastAt, Begun, Stopped}
 

@@ -53,7 +53,7 @@ fn sweep_pieces(list: &[i32], n: usize, budget: u32, pairs: &mut [u8]) -> Swept
     ensures { λ r. ⌜ (r ≡ sweptBy n (pieceAt (now (list .entry))) budget) × (now (pairs .exit) ≡ listedOver n (pieceAt (now (list .entry))) budget (now (pairs .entry))) ⌝ }
 {
     let mut table = [0i16; 5 * MOST];
-    ported_pieces::fill(list, n, &mut table);
+    ported_table::fill(list, n, &mut table);
     let stop = run::run(&table, n, budget, pairs);
     let complete = charts::no_upright(list, n);
     let last = stop.last;

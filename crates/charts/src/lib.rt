@@ -208,7 +208,7 @@ pub fn piece_at(list: &[i32], i: usize) -> LineSegment
     let y1 = coordinate_at(list, i, 2);
     let x2 = coordinate_at(list, i, 3);
     let y2 = coordinate_at(list, i, 4);
-    line_segment::piece(kind, x1, y1, x2, y2)
+    segment_test::piece(kind, x1, y1, x2, y2)
 }
 
 // Whether both ends have one x.
@@ -256,7 +256,7 @@ pub fn meeting_of(list: &[i32]) -> MeetingAnswer
         Verdict::Accepted(_) => MeetingAnswer {
             number: 0,
             place: 0,
-            meeting: line_segment::intersect(piece_at(list, 0), piece_at(list, 1)),
+            meeting: segment_test::intersect(piece_at(list, 0), piece_at(list, 1)),
         },
     }
 }

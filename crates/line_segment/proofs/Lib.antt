@@ -1,6 +1,5 @@
 -- Which file to open for which fact. From another crate: `use Rattle.line_segment.proofs.FILE.{..}`.
 --   the statements of specs/Demand, kept                     Promises      says-yes-exactly and its kin
---   each contract allows one result                          Once
 --   the rules' examples, computed                            Examples
 --   two answers together; what cannot be                     Booleans      both, no
 --   what the test's parts answer, from a branch of the code  Answers       both-on, touch-yes, crossed
@@ -17,7 +16,6 @@
 --   pieces of one line                                       Stretches     common-part
 --   pieces of lines that cross                               Crossings     lies-touch, astride-common
 pub mod Promises
-pub mod Once
 pub mod Examples
 pub mod Booleans
 pub mod Answers

@@ -28,7 +28,7 @@ fn pieces_of(list: &[i32], n: usize) -> Pieces
     requires { ⌜ n ≤ most ⌝ }
     ensures { λ r. ⌜ take n (r .all) ≡ piecesOf (now (list .entry)) n ⌝ }
 {
-    let mut all = [line_segment::piece(0, 0, 0, 0, 0); MOST];
+    let mut all = [segment_test::piece(0, 0, 0, 0, 0); MOST];
     for i in 0..n {
         all[i] = charts::piece_at(list, i);
     }
@@ -87,7 +87,7 @@ fn meets(a: LineSegment, b: LineSegment) -> bool
     if is_across(a, b) && is_across(b, a) {
         return true;
     }
-    match line_segment::intersect(a, b) {
+    match segment_test::intersect(a, b) {
         Meeting::Nothing => false,
         Meeting::Crossing => true,
         Meeting::Overlap(_) => true,

@@ -54,9 +54,9 @@ fn along(s: LineSegment) -> Where
 pub fn exact(a: LineSegment, b: LineSegment) -> Where
     ensures { λ r. ⌜ r ≡ whereOf a b ⌝ }
 {
-    match line_segment::intersect(a, b) {
+    match segment_test::intersect(a, b) {
         Meeting::Nothing => Where::Nothing,
-        Meeting::Crossing => Where::At(line_segment::crossing(a, b)),
+        Meeting::Crossing => Where::At(segment_crossing::crossing(a, b)),
         Meeting::Overlap(s) => along(s),
     }
 }

@@ -1,4 +1,3 @@
--- Which file to open: Joins for the pieces at the point visited, Moves for those that leave and enter the active list.
-pub mod Joins
+-- Which file to open: Moves for those that leave and enter the active list, Ranks for its order.
 pub mod Moves
 pub mod Ranks

@@ -1,3 +1,2 @@
 -- What the contracts of the active list cite beside the definitions of `ported_arrays`.
 pub mod Roles
-pub mod Joined

@@ -5,7 +5,6 @@ use mathlib.Core.List.{List}
 use Prim.Native.Nat.{ℕ}
 use lib.IntN.{ℤ}
 use Rattle.fractions.specs.declared.Point.{Point}
-use Rattle.line_segment.specs.Segment.{containsOf}
 use Rattle.sweep.specs.Ported.{isLess, rankOrder}
 use Rattle.ported_arrays.specs.Event.{flagged}
 use Rattle.ported_pieces.specs.Table.{pieceIn}
@@ -15,9 +14,6 @@ staysBy finishing turning i = not (flagged finishing i || flagged turning i)
 
 abbrev pub entersBy : List ℕ → List ℕ → List ℕ → ℕ → Bool
 entersBy starting finishing turning i = (flagged starting i || flagged turning i) && not (flagged finishing i)
-
-abbrev pub containsIn : List ℤ → Point → ℕ → Bool
-containsIn table p i = containsOf (pieceIn table i) p
 
 -- the order of the active list at p
 abbrev pub beforeIn : List ℤ → Point → ℕ → ℕ → Bool

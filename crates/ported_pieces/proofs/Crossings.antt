@@ -24,7 +24,7 @@ use Rattle.sweep.specs.Ported.{isLess, isEqual}
 use Rattle.ported_arrays.specs.Numbers.{pairOf, crossing-before, crossing-at}
 use Rattle.fractions.proofs.Ratios.{order-scaled}
 use Rattle.ported_pieces.specs.Table.{pieceIn, chartIn, roughAt}
-use Rattle.ported_pieces.proofs.Answers.{neither-less}
+use Rattle.ported_heights.proofs.Answers.{neither-less}
 
 -- ---- a factor above 0 in all three numbers of a point
 module _ (g : ℕ) (up : 0 < g) where

@@ -19,7 +19,7 @@ use Rattle.sweep.specs.Chart.{same}
 use Rattle.sweep.specs.Ported.{isLess, isEqual}
 use Rattle.ported_arrays.specs.Numbers.{endOf, end-before, end-at}
 use Rattle.ported_pieces.specs.Table.{numberIn, pieceIn, chartIn}
-use Rattle.ported_pieces.proofs.Answers.{is-less-than, neither-less}
+use Rattle.ported_heights.proofs.Answers.{is-less-than, neither-less}
 
 -- where the x of an end stands in the array
 abbrev pub place : ℕ → ℕ

@@ -1,10 +1,6 @@
 // The pieces of a chart as the sweep asks for them, by number, after the Rust's Segment. They stand in one array, five
 // numbers a piece: min's x and y, max's x and y, and the marks of both. Past its end every number is 0.
 // End 2i is the min of piece i, end 2i + 1 its max; pair MOST * i + j is that of pieces i and j.
-mod heights;
-mod table;
-
-pub use table::fill;
 ghost use mathlib.Core.Path.{_≡_};
 ghost use Prim.Native.Nat.{ℕ, _+_, _*_, _/_, _%_};
 ghost use Rattle.fractions.specs.Point.{pointOrder};
@@ -128,14 +124,14 @@ fn second_of(c: u16) -> u16
 pub fn crossing(table: &[i16], c: u16) -> Point
     ensures { λ r. ⌜ ((n : ℕ) → r ≡ at (chartIn n (now (table .entry))) (pairOf c)) ⌝ }
 {
-    line_segment::crossing(piece(table, first_of(c)), piece(table, second_of(c)))
+    segment_crossing::crossing(piece(table, first_of(c)), piece(table, second_of(c)))
 }
 
 // The same point as Cramer's rule gives it: no divisor is sought, and it compares as the crossing does.
 fn rough_crossing(table: &[i16], c: u16) -> Point
     ensures { λ r. ⌜ r ≡ roughAt (now (table .entry)) (pairOf c) ⌝ }
 {
-    line_segment::cramer(piece(table, first_of(c)), piece(table, second_of(c)))
+    segment_crossing::cramer(piece(table, first_of(c)), piece(table, second_of(c)))
 }
 
 // The crossing of pair a is before that of pair b.
@@ -165,7 +161,7 @@ pub fn crossing_beyond(table: &[i16], p: Point, i: u8, j: u8) -> bool
 {
     less(
         p,
-        line_segment::cramer(piece(table, i as u16), piece(table, j as u16)),
+        segment_crossing::cramer(piece(table, i as u16), piece(table, j as u16)),
     )
 }
 
@@ -175,14 +171,14 @@ pub fn crossing_beyond(table: &[i16], p: Point, i: u8, j: u8) -> bool
 pub fn test(table: &[i16], i: u8, j: u8) -> Meeting
     ensures { λ r. ⌜ r ≡ intersectOf (pieceIn (now (table .entry)) i) (pieceIn (now (table .entry)) j) ⌝ }
 {
-    line_segment::intersect(piece(table, i as u16), piece(table, j as u16))
+    segment_test::intersect(piece(table, i as u16), piece(table, j as u16))
 }
 
 // Piece i has the point p.
 pub fn contains(table: &[i16], i: u8, p: Point) -> bool
     ensures { λ r. ⌜ r ≡ containsOf (pieceIn (now (table .entry)) i) p ⌝ }
 {
-    line_segment::contains(piece(table, i as u16), p)
+    segment_holds::contains(piece(table, i as u16), p)
 }
 
 // Piece i comes before piece j in the active list at p: by height, then slope, then number.
@@ -191,9 +187,9 @@ pub fn before(table: &[i16], p: Point, i: u8, j: u8) -> bool
 {
     let a = piece(table, i as u16);
     let b = piece(table, j as u16);
-    match heights::height_order(p, a, b) {
+    match ported_heights::height_order(p, a, b) {
         Order::Less => true,
-        Order::Equal => match heights::slope_order(a, b) {
+        Order::Equal => match ported_heights::slope_order(a, b) {
             Order::Less => true,
             Order::Equal => i < j,
             Order::Greater => false,

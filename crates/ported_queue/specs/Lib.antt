@@ -1,4 +1,3 @@
 -- What the queue's contracts cite beside `ported_arrays`.
 pub mod Places
 pub mod Next
-pub mod Passing

@@ -12,7 +12,3 @@ goesBefore before l k x = ltb 0 k && before x (getD l (k - 1) 0)
 -- it goes behind the member on its right
 unfoldable pub goesAfter : (ℕ → ℕ → Bool) → List ℕ → ℕ → ℕ → Bool
 goesAfter before l k x = ltb k (length l) && not (before x (getD l k 0))
-
--- there is a member at k, and it passes
-unfoldable pub standsAt : (ℕ → Bool) → List ℕ → ℕ → Bool
-standsAt f l k = ltb k (length l) && f (getD l k 0)

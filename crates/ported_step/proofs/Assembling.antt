@@ -20,9 +20,11 @@ use Rattle.ported_arrays.specs.Insertion.{front, join-all}
 use Rattle.ported_arrays.specs.Ledger.{Ledger, report, examine}
 use Rattle.ported_arrays.specs.Event.{Sheet, flag, halves, pieces, are-min, free-all, starting, finishing, turning, dropped, stay, enter, ranged, examined, step}
 use Rattle.ported_arrays.specs.Event.{here as gathered}
-use Rattle.ported_queue.specs.Passing.{Passing}
-use Rattle.ported_active.specs.Roles.{staysBy, entersBy, containsIn}
-use Rattle.ported_step.specs.Views.{ledger, sheet, rangedOf}
+use Rattle.ported_passing.specs.Passing.{Passing}
+use Rattle.ported_active.specs.Roles.{staysBy, entersBy}
+use Rattle.ported_gather.specs.Joined.{containsIn}
+use Rattle.ported_ledger.specs.Views.{ledger}
+use Rattle.ported_step.specs.Views.{sheet, rangedOf}
 
 front-in : (f : ℕ → Bool) (l : List ℕ) {x : ℕ} → In x (front f l) → In x l
 unfolding front

@@ -1,5 +1,2 @@
--- A visit's parts as the step on arrays has them: `Reports` lists pairs, `Examinations` examines them, `Assembling` puts the
--- parts together.
-pub mod Reports
-pub mod Examinations
+-- `Assembling` puts the parts of a step together, as the step on arrays has them.
 pub mod Assembling

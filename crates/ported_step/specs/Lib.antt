@@ -1,2 +1,2 @@
--- What the contracts of a visit cite beside `ported_arrays`.
+-- What the contracts of a step cite beside `ported_arrays` and `ported_ledger`.
 pub mod Views

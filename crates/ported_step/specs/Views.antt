@@ -1,4 +1,4 @@
--- The ledger that the code's arrays hold: the waiting pairs stand from `head` to the end of theirs.
+-- The active list and the sheet that the code's arrays hold.
 use mathlib.Core.List.{List, []}
 use mathlib.Core.Option.{Option}
 use Prim.Native.Nat.{ℕ}
@@ -10,12 +10,6 @@ use Rattle.ported_arrays.specs.Event.{Sheet, add}
 use Rattle.ported_pieces.specs.Table.{chartIn}
 use Rattle.ported_active.specs.Roles.{beforeIn}
 use Rattle.ported_arrays.specs.Ledger.{Ledger}
-
-abbrev pub book : List ℕ → List ℕ → ℕ → List ℕ → ℕ → Ledger
-book marks waiting spare bytes end = record { marks = marks; waiting = waiting; spare = spare; bytes = bytes; end = end }
-
-abbrev pub ledger : List ℕ → List ℕ → ℕ → List ℕ → ℕ → Ledger
-ledger marks waiting head bytes end = book marks (drop head waiting) head bytes end
 
 -- the active list after those that stay and those that enter, in an array of so many places
 abbrev pub rangedOf : List ℤ → Point → ℕ → List ℕ → List ℕ → List ℕ

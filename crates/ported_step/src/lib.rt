@@ -1,8 +1,4 @@
 // One visit of the sweep, after the Rust's bentley_ottmann.rs: a step at the least point that is left.
-mod examine;
-mod ledger;
-mod report;
-
 ghost use mathlib.Core.Path.{_≡_};
 ghost use Prim.Native.Nat.{ℕ, _*_, _≤_, suc};
 ghost use lib.ListN.{length, take, drop};
@@ -10,42 +6,17 @@ ghost use Rattle.ported_pieces.specs.Table.{chartIn};
 ghost use Rattle.sweep.specs.Lists.{adjacent, keep};
 ghost use Rattle.sweep.specs.Step.{each};
 ghost use Rattle.ported_arrays.specs.Ledger.{examine};
-ghost use Rattle.ported_step.specs.Views.{ledger, rangedOf, sheet};
-ghost use lib.Seq.{slice};
-ghost use mathlib.Core.List.{_++_};
+ghost use Rattle.ported_ledger.specs.Views.{ledger};
+ghost use Rattle.ported_step.specs.Views.{rangedOf, sheet};
 ghost use Rattle.charts.specs.Chart.{most};
-ghost use Rattle.ported_arrays.specs.Event.{halves, pieces, step as stepOn};
-ghost use Rattle.ported_active.specs.Joined.{Joined, AllBelow};
-ghost use Rattle.ported_active.specs.Roles.{staysBy, entersBy, containsIn};
+ghost use Rattle.ported_arrays.specs.Event.{step as stepOn};
+ghost use Rattle.ported_gather.specs.Joined.{AllBelow};
+ghost use Rattle.ported_active.specs.Roles.{staysBy, entersBy};
 ghost use mathlib.Core.Option.{Option, some};
 use charts::MOST;
-use examine::examine_all;
 use fractions::Point;
-use report::report_all;
-
-// The pieces at p, in number order: those of the ends and of the crossings that were passed, and the active ones that
-// contain p.
-fn gather(
-    table: &[i16],
-    p: Point,
-    ends: &[u16],
-    e0: usize,
-    e1: usize,
-    waiting: &[u16],
-    w0: usize,
-    w1: usize,
-    active: &[u8],
-    live: usize,
-    here: &mut [u8],
-    h: usize,
-) -> usize
-    requires { ⌜ (e0 ≤ e1) × (e1 ≤ length (now ends)) × AllBelow (2 * most) (slice e0 e1 (now ends)) × (w0 ≤ w1) × (w1 ≤ length (now waiting)) × AllBelow (most * most) (slice w0 w1 (now waiting)) × (live ≤ length (now active)) × (h ≤ length (now here)) ⌝ }
-    ensures { λ r. ⌜ Joined (halves (slice e0 e1 (now (ends .entry))) ++ (pieces (slice w0 w1 (now (waiting .entry))) ++ keep (containsIn (now (table .entry)) p) (take live (now (active .entry))))) (now (here .entry)) h (now (here .exit)) r ⌝ }
-{
-    let a = ported_active::join_ends(ends, e0, e1, here, h);
-    let b = ported_active::join_crossings(waiting, w0, w1, here, a);
-    ported_active::join_active(table, p, active, live, here, b)
-}
+use ported_examine::examine_all;
+use ported_report::report_all;
 
 // How many pieces are active, where the waiting pairs begin and where the list ends.
 pub struct Turned {
@@ -118,9 +89,9 @@ pub fn step(
     let mut finishing = [0u8; MOST];
     let mut turning = [0u8; MOST];
     let mut here = [0u8; MOST];
-    let e1 = ported_queue::pass_ends(table, p, ends, passed, &mut starting, &mut finishing);
-    let w1 = ported_queue::pass_crossings(table, p, waiting, head, &mut turning, marks);
-    let h = gather(
+    let e1 = ported_passing::pass_ends(table, p, ends, passed, &mut starting, &mut finishing);
+    let w1 = ported_passing::pass_crossings(table, p, waiting, head, &mut turning, marks);
+    let h = ported_gather::gather(
         table,
         p,
         ends,

@@ -15,7 +15,7 @@ fn write_end(e: EndPoint) {
 }
 
 fn write_crossing(list: &[i32]) {
-    let p = line_segment::crossing(charts::piece_at(list, 0), charts::piece_at(list, 1));
+    let p = segment_crossing::crossing(charts::piece_at(list, 0), charts::piece_at(list, 1));
     text::point(b"crossing ", p);
     text::words(b"\n");
 }

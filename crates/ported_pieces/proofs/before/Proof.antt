@@ -3,7 +3,7 @@ use borrow.Author.Needs.{needs}
 use mathlib.Core.Path.{_≡_, sym, _∙_}
 use Rattle.sweep.specs.Ported.{heightOrder, slopeOrder}
 use Rattle.ported_pieces.specs.Table.{pieceIn}
-use Rattle.ported_pieces.proofs.Lines.{by-height, by-slope, by-number}
+use Rattle.ported_heights.proofs.Lines.{by-height, by-slope, by-number}
 use Rattle.ported_pieces.proofs.before.Statement.{statement}
 use Rattle.ported_pieces.proofs.before.Tie as tie
 

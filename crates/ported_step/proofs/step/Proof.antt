@@ -8,11 +8,11 @@ use Rattle.ported_step.proofs.step.Statement.{statement}
 use Rattle.ported_step.proofs.step.Tie as tie
 use Rattle.ported_step.proofs.step.Reads as reads
 use Rattle.ported_step.proofs.step.Lts as lts
-use Rattle.ported_step.proofs.gather.Reads as gather-reads
-use Rattle.ported_step.proofs.report.report_all.Reads as report-all-reads
+use Rattle.ported_gather.proofs.gather.Reads as gather-reads
+use Rattle.ported_report.proofs.report_all.Reads as report-all-reads
 use Rattle.ported_step.proofs.turn.Reads as turn-reads
-use Rattle.ported_queue.proofs.pass_crossings.Reads as pass-crossings-reads
-use Rattle.ported_queue.proofs.pass_ends.Reads as pass-ends-reads
+use Rattle.ported_passing.proofs.pass_crossings.Reads as pass-crossings-reads
+use Rattle.ported_passing.proofs.pass_ends.Reads as pass-ends-reads
 
 slice-aggregate-pass-ends : tie.Need-slice-aggregate-pass-ends
 slice-aggregate-pass-ends c = search needs

@@ -10,14 +10,14 @@ use Rattle.sweep.specs.Step.{each}
 use Rattle.ported_arrays.specs.Ledger.{examine}
 use Rattle.ported_arrays.specs.Insertion.{insert-all}
 use Rattle.ported_active.specs.Roles.{entersBy}
-use Rattle.ported_step.specs.Views.{ledger}
+use Rattle.ported_ledger.specs.Views.{ledger}
 use Rattle.ported_arrays.specs.Event.{add}
 use borrow.Author.Needs.{needs}
 use Rattle.ported_step.proofs.turn.Statement.{statement}
 use Rattle.ported_step.proofs.turn.Tie as tie
 use Rattle.ported_step.proofs.turn.Reads as reads
 use Rattle.ported_step.proofs.turn.Lts as lts
-use Rattle.ported_step.proofs.examine.examine_all.Reads as examine-all-reads
+use Rattle.ported_examine.proofs.examine_all.Reads as examine-all-reads
 use Rattle.ported_active.proofs.enter.Reads as enter-reads
 use Rattle.ported_active.proofs.leave.Reads as leave-reads
 use Rattle.ported_active.proofs.resort.Reads as resort-reads

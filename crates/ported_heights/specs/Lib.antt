@@ -1,0 +1,2 @@
+-- The order of lines that the code works by.
+pub mod Heights

@@ -1,0 +1,2 @@
+-- What the contracts of the ledger cite beside `ported_arrays`.
+pub mod Views

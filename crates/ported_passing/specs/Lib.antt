@@ -1,0 +1,2 @@
+-- What the contracts of passing cite beside `ported_arrays`.
+pub mod Passing

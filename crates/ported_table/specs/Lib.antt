@@ -1,0 +1,2 @@
+-- The array of pieces, filled from a list.
+pub mod Filled
