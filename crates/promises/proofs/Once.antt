@@ -19,9 +19,7 @@ use Rattle.ported_queue.proofs.wait.Reads as wait
 use Rattle.ported_queue.proofs.next_point.Reads as next-point
 use Rattle.ported_passing.proofs.pass_ends.Reads as pass-ends
 use Rattle.ported_passing.proofs.pass_crossings.Reads as pass-crossings
-use Rattle.ported_gather.proofs.join_ends.Reads as join-ends
-use Rattle.ported_gather.proofs.join_crossings.Reads as join-crossings
-use Rattle.ported_gather.proofs.join_active.Reads as join-active
+use Rattle.ported_gather.proofs.gather.Reads as gather
 use Rattle.ported_active.proofs.leave.Reads as leave
 use Rattle.ported_active.proofs.enter.Reads as enter
 use Rattle.ported_active.proofs.resort.Reads as resort
@@ -65,14 +63,8 @@ joined-once {vs} {a} {b} {c} {h} {x} {y} l p q =
     let e = p .list ∙ sym (q .list) in
     (omega (arith, length-drop x b, length-drop y c, ap length e, p .long, q .long, p .within, q .within), e)
 
-pub join-ends-once : OneInUse join-ends.Pre join-ends.Post (λ κ a s. Unit {0}) (λ κ a x s. drop x (now (s .1 .1 .1 .0)))
-join-ends-once κ a x y s t p u v h k = joined-once (p .3) h k
-
-pub join-crossings-once : OneInUse join-crossings.Pre join-crossings.Post (λ κ a s. Unit {0}) (λ κ a x s. drop x (now (s .1 .1 .1 .0)))
-join-crossings-once κ a x y s t p u v h k = joined-once (p .3) h k
-
-pub join-active-once : OneInUse join-active.Pre join-active.Post (λ κ a s. Unit {0}) (λ κ a x s. drop x (now (s .1 .1 .1 .1 .0)))
-join-active-once κ a x y s t p u v h k = joined-once (p .1) h k
+pub gather-once : OneInUse gather.Pre gather.Post (λ κ a s. Unit {0}) (λ κ a x s. drop x (now (s .1 .1 .1 .1 .1 .1 .1 .1 .1 .1 .0)))
+gather-once κ a x y s t p u v h k = joined-once (p .7) h k
 
 -- the active list, in front of the place returned
 taken-once : (b c l : List ℕ) (x y : ℕ) → x ≤ length b → y ≤ length c → take x b ≡ l → take y c ≡ l → (x ≡ y) × (take x b ≡ take y c)
