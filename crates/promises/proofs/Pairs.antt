@@ -4,11 +4,10 @@ use mathlib.Core.Path.{_≡_, refl, sym, ap, _∙_, subst}
 use mathlib.Core.Logic.{_⊎_, _↔_, inl, inr}
 use mathlib.Core.Bool.{Bool, true, false}
 use mathlib.Core.List.{List, [], _∷_}
-use Prim.Native.Nat.{ℕ, _<_}
+use Prim.Native.Nat.{ℕ, _*_, _^_, _<_, _≤_}
 use native.Mathlib.Omega.{arith}
 use denote.Ref.{now}
-use lib.IntN.{ℤ}
-use lib.Ieee.{Float}
+use lib.IntN.{ℤ, natAbs}
 use lib.ListN.{length}
 use Rattle.fractions.specs.Order.{turned}
 use Rattle.fractions.specs.Point.{pointOrder, wholeOf}
@@ -23,6 +22,7 @@ use Rattle.line_segment.specs.Piece.{HasLength, pointOf, endOrder}
 use Rattle.line_segment.specs.Geometry.{admits, LiesOn, Common, OneLine}
 use Rattle.line_segment.specs.Segment.{intersectOf, crossingOf}
 use Rattle.line_segment.specs.Demand.{saysYes, saysOverlap, Meet, CommonPart}
+use Rattle.line_segment.proofs.Booleans.{no}
 use Rattle.line_segment.proofs.Lying.{whole, same-lies}
 use Rattle.line_segment.proofs.Promises.{says-yes-exactly, overlap-exactly, overlap-ends}
 use Rattle.charts.specs.declared.Verdict.{Verdict}
@@ -36,10 +36,16 @@ use Rattle.charts.proofs.Ten.{pair-refuses-exactly}
 use Rattle.charts.proofs.meeting_of.Reads as meeting
 use Rattle.sweep.proofs.Tests.{clash}
 use Rattle.place.specs.declared.Place.{Place}
-use Rattle.place.specs.declared.PlacePoint.{PlacePoint}
-use Rattle.place.specs.Place.{placeOf, valuesOf}
+use Rattle.place.specs.declared.Where.{Where}
+use Rattle.place.specs.Binary64.{Same, nearest}
+use Rattle.place.specs.Place.{alongBy, alongOf, whereBy, whereOf, nearestPoint, inBinary64, placeOf, valuesOf}
 use Rattle.place.specs.Pair.{placeAnswer, placeAnswerOf}
 use Rattle.place.specs.Demand as place-due
+use Rattle.place.specs.Demand.{InRange, Single, saysAlong}
+use Rattle.place.proofs.Promises.{near, same}
+use Rattle.place.proofs.Inside.{x-inside, y-inside}
+use Rattle.place.proofs.Sharing.{at-exactly, along-exactly}
+use Rattle.place.proofs.Held.{held-known}
 use Rattle.place.proofs.Due.{place-is-due}
 use Rattle.place.proofs.Given.{given-in-range}
 use Rattle.place.proofs.pair_place.Reads as pair-place
@@ -49,10 +55,9 @@ use Rattle.chart_c.specs.Meetings.{metAs, fieldsOf}
 use Rattle.chart_c.specs.Places.{placedAs, placedOf}
 use Rattle.chart_c.proofs.mirtalughe_meeting.Reads as meeting-c
 use Rattle.chart_c.proofs.mirtalughe_place.Reads as place-c
-use Rattle.promises.specs.Chart.{CrossAt}
-use Rattle.promises.specs.Pair.{Said, OnePoint, Stretch, Tested, PlacedAlong, Located, TestAllowed, PlaceAllowed, TestPromises, PlacePromises}
+use Rattle.promises.specs.Pair.{Said, OnePoint, Stretch, Tested, PlaceSaid, PlacedAt, Located, TestAllowed, PlaceAllowed, TestPromises, PlacePromises}
 use Rattle.promises.proofs.Refusing.{refusing, pair-decided}
-use Rattle.promises.proofs.Geometry.{crossing-exactly, crosses-at}
+use Rattle.promises.proofs.Geometry.{crossing-exactly}
 
 -- ---- the contracts themselves allow no other outcome
 pub allows-meeting : (κ : _) (a : _) (r : _) (s : _) → meeting.Post κ a r s → TestAllowed (now (a .0)) (fieldsOf r)
@@ -205,24 +210,103 @@ test-promises =
     }
 
 -- ---- the place
+abbrev placeCase : Where → ℕ
+placeCase Where.Nothing = 0
+placeCase (Where.At p) = 1
+placeCase (Where.Along p q) = 2
+
+-- an end of a stretch is whole
+end-whole : (o : Order) (s : LineSegment) (p : Point) → alongBy o (pointOf (s .min)) (pointOf (s .max)) ≡ Where.At p → p .d ≡ 1
+unfolding alongBy pointOf
+end-whole Less s p w = no (cc)
+end-whole Equal s p w = let is : pointOf (s .min) ≡ p = cc in sym (ap (λ (q : Point). q .d) is)
+end-whole Greater s p w = no (cc)
+
 module _ (a b : LineSegment) (la : HasLength a) (lb : HasLength b) where
-  located : (q : Place) → place-due.Due a b (valuesOf q) → Located a b (placedAs 0 0 q)
-  located Place.Nothing (place-due.nothing e) =
-      record { said = said a b la lb Nothing e; nowhere = λ z. (refl, refl, refl, refl); at = λ z. absurd (omega arith); along = λ z. absurd (omega arith) }
-  located (Place.At v) (place-due.at e x y) =
+  place-said : (w : Where) → whereOf a b ≡ w → (placeCase w ≡ 0) ↔ ¬ Meet a b → PlaceSaid a b (placeCase w)
+  place-said w e n =
       record {
-        said = said a b la lb Crossing e;
-        nowhere = λ z. absurd (omega arith);
-        at = λ z. record { point = crossingOf a b; crossing = crosses-at a b la lb e; x = x; y = y; x2-zero = refl; y2-zero = refl };
-        along = λ z. absurd (omega arith);
+        nothing = n;
+        at = (λ z. one w e z, λ h. ap placeCase (sym e ∙ at-exactly a b la lb (h .0) .1 (h .1)));
+        along = (λ z. along-exactly a b la lb .0 (ap saysAlong e ∙ two w z), λ h. more w (sym (ap saysAlong e) ∙ along-exactly a b la lb .1 h));
       }
-  located (Place.Along v w) (place-due.along {s} e x y u t) =
-      record {
-        said = said a b la lb (Overlap s) e;
-        nowhere = λ z. absurd (omega arith);
-        at = λ z. absurd (omega arith);
-        along = λ z. record { along = s; stretch = stretch-is a b la lb s e; x1 = x; y1 = y; x2 = u; y2 = t };
-      }
+    where
+      one : (w : Where) → whereOf a b ≡ w → placeCase w ≡ 1 → (p : Point) × Single a b p
+      one Where.Nothing e z = absurd (omega arith)
+      one (Where.At p) e z = (p, at-exactly a b la lb p .0 e)
+      one (Where.Along p q) e z = absurd (omega arith)
+
+      two : (w : Where) → placeCase w ≡ 2 → saysAlong w ≡ true
+      two Where.Nothing z = absurd (omega arith)
+      two (Where.At p) z = absurd (omega arith)
+      two (Where.Along p q) z = refl
+
+      more : (w : Where) → saysAlong w ≡ true → placeCase w ≡ 2
+      more Where.Nothing h = clash h refl
+      more (Where.At p) h = clash h refl
+      more (Where.Along p q) h = refl
+
+  -- pieces of one line have their point at an end
+  whole-at : (p : Point) → whereOf a b ≡ Where.At p → OneLine a b → p .d ≡ 1
+  unfolding whereOf whereBy alongOf
+  whole-at p w l = go (intersectOf a b) refl w
+    where
+      go : (m : Meeting) → intersectOf a b ≡ m → whereBy m (crossingOf a b) ≡ Where.At p → p .d ≡ 1
+      go Nothing e w = no (cc)
+      go Crossing e w = absurd (crossing-exactly a b la lb .0 e .0 l)
+      go (Overlap s) e w = end-whole (endOrder (s .min) (s .max)) s p w
+
+  module _ (ra : InRange a) (rb : InRange b) where
+    at-point : (p : Point) → whereOf a b ≡ Where.At p → PlacedAt a b (placedAs 0 0 (Place.At (nearestPoint p)))
+    unfolding nearestPoint
+    at-point p e =
+        let h = at-exactly a b la lb p .0 e in
+        let held = held-known {a = a} {b = b} {r = whereOf a b} {w = Where.At p} ra rb refl e in
+        let x = x-inside a p (h .meet .first) ra in
+        let y = y-inside a p (h .meet .first) ra la in
+        record {
+          point = p;
+          single = h;
+          x = near (p .x) (p .d) (held .positive) (held .d) x;
+          y = near (p .y) (p .d) (held .positive) (held .d) y;
+          on-one-line = λ l.
+              let w = whole-at p e l in
+              record { whole = w; x = exact (p .x) (p .d) w x; y = exact (p .y) (p .d) w y };
+          x2-zero = refl;
+          y2-zero = refl;
+        }
+      where
+        exact : (z : ℤ) (d : ℕ) → d ≡ 1 → natAbs z ≤ 2 ^ 15 * d → Same (nearest z d) z
+        exact z d w h = subst (λ (n : ℕ). Same (nearest z n) z) (sym w) (same z (omega (arith, w, h)))
+
+    located : (w : Where) → whereOf a b ≡ w → place-due.Due a b (valuesOf (inBinary64 w)) → Located a b (placedAs 0 0 (inBinary64 w))
+    unfolding inBinary64
+    located Where.Nothing w (place-due.nothing e) =
+        record {
+          said = place-said Where.Nothing w (λ z h. clash (says-yes-exactly a b la lb .1 h) (ap saysYes e), λ n. refl);
+          nowhere = λ z. (refl, refl, refl, refl);
+          at = λ z. absurd (omega arith);
+          along = λ z. absurd (omega arith);
+        }
+    located (Where.At p) w d =
+        let h = at-point p w in
+        record {
+          said = place-said (Where.At p) w (λ z. absurd (omega arith), λ n. absurd (n (p, at-exactly a b la lb p .0 w .meet)));
+          nowhere = λ z. absurd (omega arith);
+          at = λ z. h;
+          along = λ z. absurd (omega arith);
+        }
+    located (Where.Along p q) w (place-due.along {s} e l x y u t) =
+        record {
+          said = place-said (Where.Along p q) w (λ z. absurd (omega arith), λ n. absurd (n (says-yes-exactly a b la lb .0 (ap saysYes e))));
+          nowhere = λ z. absurd (omega arith);
+          at = λ z. absurd (omega arith);
+          along = λ z. record { along = s; part = overlap-ends a b s la lb e; forward = l; x1 = x; y1 = y; x2 = u; y2 = t };
+        }
+
+    pub place-located : Located a b (placedAs 0 0 (placeOf a b))
+    unfolding placeOf
+    place-located = located (whereOf a b) refl (place-is-due a b la lb ra rb)
 
 module _ (list : List ℤ) where
   abbrev place : Place
@@ -247,8 +331,7 @@ place-promises =
       located = λ list n r d o.
           let l = long list n d in
           rw (o .returned ∙ place-done list n d)
-          (located (pieceAt list 0) (pieceAt list 1) (l .0) (l .1) (place list)
-          (place-is-due (pieceAt list 0) (pieceAt list 1) (l .0) (l .1) (given-in-range list 0) (given-in-range list 1)));
+          (place-located (pieceAt list 0) (pieceAt list 1) (l .0) (l .1) (given-in-range list 0) (given-in-range list 1));
       refusals = refusing pair-decided
           (λ list r o k p d. o .returned ∙ place-refused list k p d)
           (λ list r o c. rw (o .returned ∙ place-done list (c .0) (c .1)) (values-zero (place list)))

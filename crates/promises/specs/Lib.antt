@@ -2,8 +2,8 @@
 -- every call, `Chart` the words of geometry, then a file for each call; `Heights` the bounds of heights, `Once` one outcome,
 -- `Signs` the calls that answer with a sign, `Useless` the useless programs, `OnePlace` two points that have one place.
 -- In quotation marks: docs/CHART.md, done, refusal, room, rest of the list, reading order, pair calls, order of points, turn,
--- upright, overlap, place, along exactly, nearest double, all pairs, answer of a sweep, first common point, longer budgets,
--- bounds of a height, demand 3, one outcome, useless programs.
+-- upright, overlap, place, one shared point, along exactly, nearest double, all pairs, answer of a sweep, first common point,
+-- longer budgets, bounds of a height, demand 3, one outcome, useless programs.
 pub mod Refusals
 pub mod Chart
 pub mod AllPairs

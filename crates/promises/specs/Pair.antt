@@ -1,5 +1,5 @@
 -- What is promised of the two calls on a pair of pieces, the segment test and the place, over the number of each case:
--- 0 nothing, 1 a crossing or At, 2 an overlap or Along.
+-- 0 nothing, 1 a crossing or At, 2 an overlap or Along. An overlap of one point is 2 to the test and 1 to the place.
 use mathlib.Core.Path.{_≡_}
 use mathlib.Core.Logic.{_⊎_, _↔_}
 use mathlib.Core.Bool.{true}
@@ -20,15 +20,15 @@ use Rattle.charts.specs.Piece.{pieceAt}
 use Rattle.place.specs.declared.Place.{Place}
 use Rattle.place.specs.Binary64.{Near, Same}
 use Rattle.place.specs.Pair.{placeAnswerOf}
+use Rattle.place.specs.Demand.{Single, Several}
 use Rattle.chart_c.specs.declared.End.{End}
 use Rattle.chart_c.specs.declared.Met.{Met}
 use Rattle.chart_c.specs.declared.Placed.{Placed}
 use Rattle.chart_c.specs.Meetings.{noEnd, metAs, fieldsOf}
 use Rattle.chart_c.specs.Places.{zero, placedAs, placedOf}
 use Rattle.promises.specs.Refusals.{RefusalPromises}
-use Rattle.promises.specs.Chart.{CrossAt}
 
--- ---- which case is said, exactly when
+-- ---- the segment test: which case is said, exactly when
 pub record Said (a b : LineSegment) (meets : ℕ) : Type 0 where
   pub nothing : (meets ≡ 0) ↔ ¬ Meet a b
   pub crossing : (meets ≡ 1) ↔ (¬ OneLine a b × Meet a b)
@@ -47,7 +47,6 @@ pub record Stretch (a b s : LineSegment) : Type 0 where
   pub part : CommonPart a b s
   pub some : HasLength s ⊎ OnePoint a b s
 
--- ---- the segment test
 abbrev pub endOf : End → EndPoint
 endOf e = record { x = e .x; y = e .y; included = e .included }
 
@@ -59,27 +58,42 @@ pub record Tested (a b : LineSegment) (r : Met) : Type 0 where
   pub stretch : r .meets ≡ 2 → Stretch a b (stretchOf r)
   pub no-stretch : ¬ (r .meets ≡ 2) → (r .min ≡ noEnd) × (r .max ≡ noEnd)
 
--- ---- the place
+-- ---- the place: which case is said, exactly when, by how many points are shared, ends added
+pub record PlaceSaid (a b : LineSegment) (meets : ℕ) : Type 0 where
+  pub nothing : (meets ≡ 0) ↔ ¬ Meet a b
+  -- "When two collinear pieces share a single point, the place is At that point": so of any two that meet
+  pub at : (meets ≡ 1) ↔ ((p : Point) × Single a b p)
+  -- "and Along only when the ends differ"
+  pub along : (meets ≡ 2) ↔ Several a b
+
+-- two pieces of one line: "with its whole coordinates exact"
+pub record WholeAt (p : Point) (r : Placed) : Type 0 where
+  pub whole : p .d ≡ 1
+  pub x : Same (r .x1) (p .x)
+  pub y : Same (r .y1) (p .y)
+
 pub record PlacedAt (a b : LineSegment) (r : Placed) : Type 0 where
   pub point : Point
-  pub crossing : CrossAt a b point
+  pub single : Single a b point
   -- "each value is the binary64 nearest to the exact fraction"
   pub x : Near (r .x1) (point .x) (point .d)
   pub y : Near (r .y1) (point .y) (point .d)
+  pub on-one-line : OneLine a b → WholeAt point r
   pub x2-zero : r .x2 ≡ zero
   pub y2-zero : r .y2 ≡ zero
 
 pub record PlacedAlong (a b : LineSegment) (r : Placed) : Type 0 where
   pub along : LineSegment
-  pub stretch : Stretch a b along
-  -- "Along (one-point stretches too) gives the stretch's ends exactly."
+  pub part : CommonPart a b along
+  pub forward : HasLength along
+  -- "Along gives the stretch's ends exactly."
   pub x1 : Same (r .x1) (along .min .x)
   pub y1 : Same (r .y1) (along .min .y)
   pub x2 : Same (r .x2) (along .max .x)
   pub y2 : Same (r .y2) (along .max .y)
 
 pub record Located (a b : LineSegment) (r : Placed) : Type 0 where
-  pub said : Said a b (r .meets)
+  pub said : PlaceSaid a b (r .meets)
   pub nowhere : r .meets ≡ 0 → (r .x1 ≡ zero) × (r .y1 ≡ zero) × (r .x2 ≡ zero) × (r .y2 ≡ zero)
   pub at : r .meets ≡ 1 → PlacedAt a b r
   pub along : r .meets ≡ 2 → PlacedAlong a b r
