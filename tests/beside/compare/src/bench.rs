@@ -40,7 +40,9 @@ pub fn print(programs: &Path) -> Result<()> {
   println!("| chart | pieces | bytes | read, ns | write, ns | write / read |");
   println!("|---|---|---|---|---|---|");
   let largest = [("widest", files::widest())];
-  let full = charts.iter().filter(|(_, chart)| chart.len() == MOST_PIECES);
+  let full = charts
+    .iter()
+    .filter(|(_, chart)| chart.len() == MOST_PIECES);
   for (name, chart) in full.chain(&largest) {
     file_row(name, chart)?;
   }

@@ -1,6 +1,6 @@
 //! Holds the published Rust, this library and a plain model against each other, chart by chart.
 //!
-//!   compare gate [SHARE]       the fixed charts, or of those families that have thousands one chart in SHARE
+//!   compare gate [SHARE]       the fixed charts, or those kept by hand and of every other family one chart in SHARE
 //!   compare long SEED COUNT    those kept by hand, and COUNT random charts of each temper from SEED
 //!   compare written            the charts of the gate, each with the file that the library writes
 //!   compare record FOLDER      writes the Rust's answers on a fixed sample
