@@ -154,8 +154,11 @@ fn gate(share: usize) -> Vec<Family> {
       random("near-whole", GATE_SEED, 2_000, charts::near_wholes),
       share,
     ),
-    random("any-size", GATE_SEED, 300, charts::any_size),
-    random("full-size", GATE_SEED, 1_000, charts::full_size),
+    thinned(random("any-size", GATE_SEED, 300, charts::any_size), share),
+    thinned(
+      random("full-size", GATE_SEED, 1_000, charts::full_size),
+      share,
+    ),
   ]
 }
 
