@@ -2,7 +2,7 @@
 -- Assumes nothing.
 use mathlib.Core.Path.{_≡_, refl, sym, ap, _∙_}
 use mathlib.Core.Bool.{Bool}
-use mathlib.Core.List.{List}
+use mathlib.Core.List.{List, []}
 use mathlib.Core.Option.{none}
 use Prim.Native.Nat.{ℕ, _≤_}
 use native.Mathlib.Omega.{arith}
@@ -10,16 +10,27 @@ use denote.Ref.{now}
 use lib.ListN.{length, take, drop, length-take, length-drop}
 use Rattle.charts.specs.Outcome.{OneResult, OneOutcome}
 use Rattle.ported_arrays.specs.Event.{Sheet}
+use Rattle.ported_arrays.specs.Ledger.{Ledger}
 use Rattle.ported_pieces.specs.Table.{chartIn}
 use Rattle.ported_passing.specs.Passing.{Passing}
 use Rattle.ported_gather.specs.Joined.{Joined}
+use Rattle.ported_ledger.specs.Views.{book}
 use Rattle.integers.proofs.size.Reads as size
+use Rattle.ported_heights.proofs.slope_order.Reads as slope-order
+use Rattle.ported_heights.proofs.height_order.Reads as height-order
+use Rattle.ported_table.proofs.fill.Reads as fill
 use Rattle.ported_queue.proofs.order_ends.Reads as order-ends
 use Rattle.ported_queue.proofs.wait.Reads as wait
 use Rattle.ported_queue.proofs.next_point.Reads as next-point
 use Rattle.ported_passing.proofs.pass_ends.Reads as pass-ends
 use Rattle.ported_passing.proofs.pass_crossings.Reads as pass-crossings
 use Rattle.ported_gather.proofs.gather.Reads as gather
+use Rattle.ported_ledger.proofs.cell_of.Reads as cell-of
+use Rattle.ported_ledger.proofs.mark_at.Reads as mark-at
+use Rattle.ported_ledger.proofs.list_pair.Reads as list-pair
+use Rattle.ported_ledger.proofs.wait_pair.Reads as wait-pair
+use Rattle.ported_report.proofs.report_all.Reads as report-all
+use Rattle.ported_examine.proofs.examine_all.Reads as examine-all
 use Rattle.ported_active.proofs.leave.Reads as leave
 use Rattle.ported_active.proofs.enter.Reads as enter
 use Rattle.ported_active.proofs.resort.Reads as resort
@@ -30,11 +41,36 @@ use Rattle.promises.specs.Once.{OneInUse}
 pub size-once : OneResult size.Post
 size-once κ a x y s t h k = h ∙ sym k
 
+pub slope-order-once : OneResult slope-order.Post
+slope-order-once κ a x y s t h k = h ∙ sym k
+
+pub height-order-once : OneResult height-order.Post
+height-order-once κ a x y s t h k = h ∙ sym k
+
+pub cell-of-once : OneResult cell-of.Post
+cell-of-once κ a x y s t h k = h ∙ sym k
+
+pub mark-at-once : OneResult mark-at.Post
+mark-at-once κ a x y s t h k = h ∙ sym k
+
 pub next-point-once : OneResult next-point.Post
 next-point-once κ a x y s t h k = h 0 ∙ sym (k 0)
 
+pub fill-once : OneOutcome fill.Post (λ κ s. now (s .1 .1 .0))
+fill-once κ a x y s t h k = (refl, h ∙ sym k)
+
 pub order-ends-once : OneOutcome order-ends.Post (λ κ s. now (s .1 .0))
 order-ends-once κ a x y s t h k = (refl, h 0 ∙ sym (k 0))
+
+-- marks and the list's bytes, as a ledger has them
+booked-once : {m o w v b c : List ℕ} {p q x y : ℕ} {l : Ledger} → book m w p b x ≡ l → book o v q c y ≡ l → (x ≡ y) × _≡_ {A = List ℕ × List ℕ} (m, b) (o, c)
+booked-once h k = let e = h ∙ sym k in (ap (λ (l : Ledger). l .end) e, ap (λ (l : Ledger). (l .marks, l .bytes)) e)
+
+pub list-pair-once : OneOutcome list-pair.Post {M = List ℕ × List ℕ} (λ κ s. (now (s .0), now (s .1 .0)))
+list-pair-once κ a x y s t h k = booked-once (h [] 0) (k [] 0)
+
+pub report-all-once : OneOutcome report-all.Post {M = List ℕ × List ℕ} (λ κ s. (now (s .1 .1 .1 .0), now (s .1 .1 .1 .1 .0)))
+report-all-once κ a x y s t h k = booked-once (h 0 [] 0) (k 0 [] 0)
 
 -- two loops that pass the front of one list pass as many
 passed-once : {f : ℕ → Bool} {l : List ℕ} {from x y : ℕ} → Passing f l from x → Passing f l from y → x ≡ y
@@ -56,6 +92,22 @@ pass-crossings-once κ a x y s t h k =
 -- the pairs that wait, from the new head on
 pub wait-once : OneInUse wait.Pre wait.Post (λ κ a s. Unit {0}) (λ κ a x s. drop x (now (s .1 .0)))
 wait-once κ a x y s t p u v h k = (h 0 .0 ∙ sym (k 0 .0), h 0 .2 ∙ sym (k 0 .2))
+
+-- .. and the marks
+pub wait-pair-once : OneInUse wait-pair.Pre wait-pair.Post (λ κ a s. Unit {0}) {M = List ℕ × List ℕ} (λ κ a x s. (now (s .1 .1 .1 .0), drop x (now (s .1 .1 .1 .1 .0))))
+wait-pair-once κ a x y s t p u v h k =
+    let e = h .1 0 [] 0 ∙ sym (k .1 0 [] 0) in
+    (ap (λ (l : Ledger). l .spare) e, ap (λ (l : Ledger). (l .marks, l .waiting)) e)
+
+-- .. and the list's bytes
+pub examine-all-once :
+    OneInUse examine-all.Pre examine-all.Post (λ κ a s. Unit {0}) {M = List ℕ × List ℕ × List ℕ}
+    (λ κ a x s. (now (s .1 .1 .1 .1 .0), drop (x .head) (now (s .1 .1 .1 .1 .1 .0)), now (s .1 .1 .1 .1 .1 .1 .1 .0)))
+examine-all-once κ a x y s t p u v h k =
+    let e = h .1 0 ∙ sym (k .1 0) in (
+      λ i. record { head = ap (λ (l : Ledger). l .spare) e i; end = ap (λ (l : Ledger). l .end) e i },
+      ap (λ (l : Ledger). (l .marks, l .waiting, l .bytes)) e,
+    )
 
 -- the pieces at p, from the place returned on
 joined-once : {vs a b c : List ℕ} {h x y : ℕ} → h ≤ length a → Joined vs a h b x → Joined vs a h c y → (x ≡ y) × (drop x b ≡ drop y c)
