@@ -114,6 +114,7 @@ def check_sizes():
     same("README.md, up to how many pieces", told, [f"{due['MOST_PIECES']:,}"])
     version = re.search(r'MIRTALUGHE_VERSION "(.*?)"', HEADER)[1]
     same("the header's version", ".".join(str(due[f"VERSION_{part}"]) for part in ("MAJOR", "MINOR", "PATCH")), version)
+    same("the newest version of CHANGES.md", re.search(r"^## (\d+\.\d+\.\d+)", text_of("CHANGES.md"), re.M)[1], version)
     same("the wrapper's version", re.search(r'^version = "(.*?)"', text_of("bindings/rust/Cargo.toml"), re.M)[1], version)
 
 
