@@ -10,4 +10,5 @@ pub mod Refusals
 pub mod Sides
 pub mod Promises
 pub mod Exactly
+pub mod Written
 pub mod Once

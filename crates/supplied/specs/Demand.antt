@@ -1,7 +1,8 @@
 -- What is promised of the check of a supplier's list, over the bytes as they are given and the common points of pieces.
 use mathlib.Core.Path.{_≡_}
 use mathlib.Core.Logic.{_⊎_, _↔_, _≢_}
-use mathlib.Core.List.{List}
+use mathlib.Core.List.{List, _∷_, _++_}
+use mathlib.Core.List.{List·Memᴰ as In}
 use Prim.Native.Nat.{ℕ, _/_, _%_, _<_, _≤_}
 use lib.IntN.{ℤ}
 use lib.ListN.{length}
@@ -9,7 +10,9 @@ use Rattle.line_segment.specs.Demand.{Meet}
 use Rattle.charts.specs.Chart.{verdictOf}
 use Rattle.charts.specs.Piece.{pieceAt}
 use Rattle.charts.specs.declared.Verdict.the-variants.{Accepted as Going, Refused as Stopped}
-use Rattle.naive.specs.Demand.{Before}
+use Rattle.naive.specs.AllPairs.{pairsOf}
+use Rattle.naive.specs.Demand.{Before, Pairwise}
+use Rattle.naive.specs.Pairs.{Pair, bytes}
 use Rattle.supplied.specs.declared.Checked.{Checked}
 use Rattle.supplied.specs.declared.Checked.the-variants.{Accepted, Fault, Missing, Refused}
 use Rattle.supplied.specs.Entries.{one, other}
@@ -91,3 +94,39 @@ abbrev pub AcceptsExactly : Type 0
 AcceptsExactly =
     (list : List ℤ) (n : ℕ) (bytes : List ℕ) → verdictOf list ≡ Going n → length bytes % 2 ≡ 0
     → (checkedOf list bytes ≡ Accepted) ↔ NamesOnce list n bytes
+
+-- ---- lists of pairs, written out as bytes
+-- a pair in the other number order
+abbrev pub turn : Pair → Pair
+turn p = (p .1, p .0)
+
+-- a list that has each meeting pair once, in either number order, and nothing else
+pub record Lists (list : List ℤ) (n : ℕ) (pairs : List Pair) : Type 0 where
+  pub only : (p : Pair) → In p pairs → (p .0 < n) × (p .1 < n) × (p .0 ≢ p .1) × Meet (pieceAt list (p .0)) (pieceAt list (p .1))
+  pub each : (a b : ℕ) → b < a → a < n → Meet (pieceAt list a) (pieceAt list b) → In (a, b) pairs ⊎ In (b, a) pairs
+  pub once : Pairwise (λ p q. (p ≢ q) × (turn p ≢ q)) pairs
+
+abbrev pub AcceptsLists : Type 0
+AcceptsLists = (list : List ℤ) (n : ℕ) (pairs : List Pair) → verdictOf list ≡ Going n → (checkedOf list (bytes pairs) ≡ Accepted) ↔ Lists list n pairs
+
+-- the list of all pairs is accepted
+abbrev pub AcceptsAllPairs : Type 0
+AcceptsAllPairs = (list : List ℤ) (n : ℕ) → verdictOf list ≡ Going n → checkedOf list (bytes (pairsOf list n)) ≡ Accepted
+
+-- an accepted list is no longer accepted with an entry taken out, ..
+abbrev pub RefusesOneLess : Type 0
+RefusesOneLess =
+    (list : List ℤ) (n : ℕ) (s t : List Pair) (p : Pair) → verdictOf list ≡ Going n
+    → checkedOf list (bytes (s ++ (p ∷ t))) ≡ Accepted → ¬ (checkedOf list (bytes (s ++ t)) ≡ Accepted)
+
+-- .. replaced by another pair, ..
+abbrev pub RefusesAnother : Type 0
+RefusesAnother =
+    (list : List ℤ) (n : ℕ) (s t : List Pair) (p q : Pair) → verdictOf list ≡ Going n → q ≢ p → q ≢ turn p
+    → checkedOf list (bytes (s ++ (p ∷ t))) ≡ Accepted → ¬ (checkedOf list (bytes (s ++ (q ∷ t))) ≡ Accepted)
+
+-- .. and no list is with a pair named twice
+abbrev pub RefusesTwice : Type 0
+RefusesTwice =
+    (list : List ℤ) (n : ℕ) (s t : List Pair) (p : Pair) → verdictOf list ≡ Going n → In p (s ++ t) ⊎ In (turn p) (s ++ t)
+    → ¬ (checkedOf list (bytes (s ++ (p ∷ t))) ≡ Accepted)
