@@ -24,12 +24,12 @@ use Rattle.supplied.proofs.Sides.{turned, named-yes, named-has}
 use Rattle.supplied.proofs.Promises.{says-what-is-due}
 
 -- one of two numbers is less, or they are equal
-data Either (a b : ℕ) : Type 0 where
+pub data Either (a b : ℕ) : Type 0 where
   less : a < b → Either a b
   equal : a ≡ b → Either a b
   more : b < a → Either a b
 
-either : (a b : ℕ) → Either a b
+pub either : (a b : ℕ) → Either a b
 either a b = go (ltb a b) refl
   where
     go : (t : Bool) → ltb a b ≡ t → Either a b
