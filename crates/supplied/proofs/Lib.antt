@@ -13,3 +13,4 @@ pub mod Exactly
 pub mod Written
 pub mod Changed
 pub mod Once
+pub mod Examples

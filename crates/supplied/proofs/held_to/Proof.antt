@@ -1,6 +1,8 @@
 -- `supplied::held_to` meets its contract: the first fault, else the first missing pair, else accepted.
 use borrow.Author.Needs.{needs}
 use mathlib.Core.Path.{_≡_, refl, sym, ap, _∙_}
+use Prim.Native.Nat.{_*_}
+use Rattle.charts.specs.Chart.{most}
 use Rattle.naive.specs.Decoded.{meetsIn}
 use Rattle.supplied.specs.Checking.{told}
 use Rattle.supplied.specs.declared.First.the-variants.{None}
@@ -13,7 +15,7 @@ slice-aggregate-mark-entries : tie.Need-slice-aggregate-mark-entries
 slice-aggregate-mark-entries c = search needs
 
 mark-entries-requires : tie.Need-mark-entries-requires
-mark-entries-requires c κs = let s = c .before .before in (s .pre .0, s .pre .1, none-marked (s .args .bytes .now) 4096 refl)
+mark-entries-requires c κs = let s = c .before .before in (s .pre .0, s .pre .1, none-marked (s .args .bytes .now) (most * most) refl)
 
 enum-known-i : tie.Need-enum-known-i
 enum-known-i c = search needs
