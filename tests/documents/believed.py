@@ -23,6 +23,14 @@ line_segment/specs/Segment:intersectOf `SaysYesExactly` and `OverlapExactly`
 line_segment/specs/Segment:crossingOf CrossingIsCramers
 line_segment/specs/Segment:containsOf ContainsExactly
 """
+SWEEP = """
+bentley_ottmann/specs/Swept:sweepOf what is read
+bentley_ottmann/specs/Swept:lentAfter what is read
+"""
+PAIRS = """
+naive/specs/AllPairs:allPairsOf what is read
+naive/specs/AllPairs:lentAfter what is read
+"""
 DEMANDS = [
     (
         "points and pieces",
@@ -56,11 +64,8 @@ chart_writer/specs/Writing:writtenBy what is read
     ),
     (
         "1, the sweep",
-        "bentley_ottmann/specs/Demand:RefusesExactly,RefusesWhole,DoneExactly",
-        """
-bentley_ottmann/specs/Swept:sweepOf what is read
-bentley_ottmann/specs/Swept:lentAfter what is read
-""",
+        "promises/specs/Sweep:Refusals,Ported",
+        SWEEP,
     ),
     ("2, the segment test", "line_segment/specs/Demand:SaysYesExactly", TEST),
     (
@@ -80,21 +85,14 @@ place/specs/Pair:placeAnswerOf AnswerIsDue
     ),
     (
         "2, all pairs",
-        "naive/specs/Demand:ListsExactly,ListsInOrder,ListsOnce naive/specs/AllPairs:allPairsOf,lentAfter",
-        LISTS + "naive/specs/AllPairs:pairsOf ListsExactly",
+        "promises/specs/AllPairs:Allowed,AllPairsPromises",
+        LISTS + PAIRS,
     ),
     (
         "3",
-        "bentley_ottmann/specs/Demand:ListsExactly,ListsInOrder,VisitsInOrder,ListsAllPairs,FullSweepBounded,FirstCommon",
-        LISTS
-        + TEST
-        + """
-bentley_ottmann/specs/Swept:sweepOf what is read
-bentley_ottmann/specs/Swept:lentAfter what is read
-naive/specs/AllPairs:pairsOf ListsExactly
-sweep/specs/Sought:first FirstCommon
-sweep/specs/Ported:ported FirstCommon
-""",
+        "promises/specs/Sweep:ListsExactly,ListsInOrder,VisitsInOrder,ListsAllPairs,FullSweepBounded,FirstCommon,Ported "
+        "promises/specs/Chart:NoneUpright",
+        LISTS + SWEEP + PAIRS + "charts/specs/Demand:ListingDue ListingRefusesExactly",
     ),
     ("the steps of the sweep", "bentley_ottmann/specs/Swept:sweepOf,lentAfter", LISTS + TEST),
     (

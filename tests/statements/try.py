@@ -45,6 +45,9 @@ def try_always(chart, fail):
         fail("visits-up, visits-only")
     if len(run.listed) != len(set(run.listed)) or not all(chart.test(*q)[0] for q in run.listed):
         fail("lists-once, lists-only")
+    keys = [(chart.test(*q)[1], q) for q in run.listed]
+    if keys != sorted(keys) or run.listed_by_examining:
+        fail("in order, examining lists nothing: not promised with upright pieces")
     if run.queue or len(run.visited) > 2 * chart.n + sum(chart.test(*q)[0] is not None for q in chart.pairs):
         fail("steps-bounded, ends-soon")
     return len(run.visited)

@@ -219,7 +219,7 @@ pub fn all_pairs<'a>(list: &[i32], lent: &'a mut [u8]) -> Result<&'a [Pair], Ref
 }
 
 /// Sweeps a chart's pieces from left to right for at most `budget` steps, a visited point each, and lists pairs that
-/// meet in lent bytes, by their first common point. At least [`pairs_room`] of its pieces is to be lent; bytes past the
+/// meet in lent bytes, where no piece is upright by their first common point. At least [`pairs_room`] of its pieces is to be lent; bytes past the
 /// last pair keep their values.
 pub fn sweep<'a>(list: &[i32], budget: u32, lent: &'a mut [u8]) -> Result<Swept<'a>, Refusal> {
   // SAFETY: both pointers are good for their lengths, and the lent bytes are borrowed alone.

@@ -15,3 +15,4 @@ pub mod Once
 pub mod Heights
 pub mod Useless
 pub mod OnePlace
+pub mod Signs

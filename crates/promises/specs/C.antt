@@ -13,7 +13,7 @@ use Rattle.bentley_ottmann.specs.Swept.{sweepOf, lentAfter}
 use Rattle.chart_c.specs.declared.SweptFields.{SweptFields}
 use Rattle.chart_c.specs.Sweeps.{sweptFields}
 
--- "where `visited`, the last point is x/d, y/d"
+-- where `visited`, the last point is x/d, y/d
 abbrev pub lastRead : Bool → Point → Last
 lastRead true p = At p
 lastRead false p = None

@@ -1,5 +1,5 @@
--- "Ordering crossings by their binary64 places" is an error that a builder is drawn to: here two pieces cross a third at two
--- points, in order, that have one place in binary64.
+-- Why points are not ordered by their places in binary64: here two pieces cross a third at two points, in order, that have
+-- one place.
 use mathlib.Core.Path.{_≡_}
 use mathlib.Core.List.{List, [], _∷_, map}
 use Prim.Native.Nat.{ℕ}

@@ -23,7 +23,7 @@ use Rattle.bentley_ottmann.specs.declared.Swept.{Swept}
 use Rattle.bentley_ottmann.specs.Swept.{asLast, sweepOf, lentAfter, refusedWith}
 use Rattle.promises.specs.Refusals.{RefusalPromises}
 use Rattle.promises.specs.Chart.{Accepts, pairsIn, FirstOf, Before, Meeting, SomePoints, AllPoints}
-use Rattle.promises.specs.AllPairs as pairs
+use Rattle.promises.specs.AllPairs.{Allowed as AllPairs, listedIn as allIn}
 
 -- which results and which bytes afterwards a call allows, by its list, its budget and the lent bytes
 abbrev pub Outcome : Type 1
@@ -77,7 +77,7 @@ module _ (Allowed : Outcome) where
   -- .. beside any answer of the call for all pairs
   abbrev pub BesideAllPairs : ((list : List ℤ) (n budget : ℕ) (r : Swept) (after : List ℕ) (a : Answer) (all : List ℕ) → Type 0) → Promise
   BesideAllPairs P list n budget lent r after =
-      (other : List ℕ) (a : Answer) (all : List ℕ) → Accepts list other n → pairs.Allowed list other a all
+      (other : List ℕ) (a : Answer) (all : List ℕ) → Accepts list other n → AllPairs list other a all
       → P list n budget r after a all
 
   -- no pair is invented
@@ -151,7 +151,7 @@ module _ (Allowed : Outcome) (Whole : List ℤ → ℕ → Type 0) where
   abbrev pub ListsAllPairs : Type 0
   ListsAllPairs =
       OnWholeCharts (BesideAllPairs Allowed (λ list n budget r after a all. r .ended ≡ true
-      → (r .pairs ≡ a .count) × ((i j : ℕ) → In (i, j) (listedIn r after) ↔ In (j, i) (pairs.listedIn a all))))
+      → (r .pairs ≡ a .count) × ((i j : ℕ) → In (i, j) (listedIn r after) ↔ In (j, i) (allIn a all))))
 
   -- "a full sweep of n pieces with k pairs takes at most 2n + k steps"
   abbrev pub FullSweepBounded : Type 0

@@ -43,11 +43,11 @@ abbrev pub InventsSteps : Outcome
 InventsSteps list budget lent r after = (s : Swept) × Ported list budget lent s after × (r ≡ inventing budget s)
 
 pub record ShutOut : Type 0 where
-  -- "by demand 1's "exactly when""
+  -- by the "exactly when" of demand 1
   pub refuses-all : ¬ Refusals RefusesAll
-  -- "by demand 2"
+  -- by demand 2
   pub lists-nothing : ¬ pairs.ListsExactly ListsNothing
-  -- "by demand 3 at every budget"
+  -- by "demand 3 at every budget"
   pub idles-after-one : ¬ CountsSteps IdlesAfterOne
-  -- "by the visited points of demand 3"
+  -- by "the visited points of demand 3"
   pub invents-steps : ¬ VisitsInOrder InventsSteps NoneUpright
