@@ -239,8 +239,7 @@ pub fn sweep<'a>(list: &[i32], budget: u32, lent: &'a mut [u8]) -> Result<Swept<
 /// number order, and if not, where it is wrong.
 pub fn check(list: &[i32], pairs: &[u8]) -> Result<Checked, Refusal> {
   // SAFETY: both pointers are good for their lengths.
-  let checked =
-    unsafe { calls::mirtalughe_check(list.as_ptr(), list.len(), pairs.as_ptr(), pairs.len()) };
+  let checked = unsafe { calls::mirtalughe_check(list.as_ptr(), list.len(), pairs.as_ptr(), pairs.len()) };
   refusal::check(checked.number, checked.place, Given::List)?;
   Ok(match checked.says {
     1 => Checked::Accepted,

@@ -17,7 +17,7 @@ use Rattle.naive.proofs.Exactly.{lists-exactly, lists-once}
 use Rattle.naive.proofs.Rows.{bytes-length}
 use Rattle.supplied.specs.declared.Checked.the-variants.{Accepted}
 use Rattle.supplied.specs.Entries.{one, other}
-use Rattle.supplied.specs.Demand.{Meets, Names, Named, NamesOnce, turn, Lists, AcceptsLists, AcceptsAllPairs}
+use Rattle.supplied.specs.Demand.{Meets, Names, Named, NamesOnce, turn, Lists, AcceptsLists, AcceptsAllPairs, AcceptsLesserFirst}
 use Rattle.supplied.proofs.Sides.{turned}
 use Rattle.supplied.proofs.Exactly.{accepts-exactly}
 
@@ -119,17 +119,29 @@ accepts-lists list n ps e =
     let a = accepts-exactly list n (bytes ps) e (even ps) in
     (λ q. lists list n ps (a .0 q), λ o. a .1 (names list n ps o))
 
--- ---- the list of all pairs
-greater-first : (list : List ℤ) (n : ℕ) → verdictOf list ≡ Going n → (ps : List Pair) → ((p : Pair) → In p ps → p .1 < p .0) → Pairwise (λ p q. p ≢ q) ps → Pairwise (λ p q. (p ≢ q) × (turn p ≢ q)) ps
-greater-first list n e [] g w = tt
-greater-first list n e (p ∷ ps) g w = (
-  λ q m. (w .0 q m, λ z. let h = g p (here refl) in let l = g q (there m) in let x : p .1 ≡ q .0 = ap (λ (r : Pair). r .0) z in let y : p .0 ≡ q .1 = ap (λ (r : Pair). r .1) z in absurd (omega arith)),
-  greater-first list n e ps (λ q m. g q (there m)) (w .1),
-)
+-- ---- lists of one number order
+no-turn : (ps : List Pair) → ((p q : Pair) → In p ps → In q ps → turn p ≢ q) → Pairwise (λ p q. p ≢ q) ps → Pairwise (λ p q. (p ≢ q) × (turn p ≢ q)) ps
+no-turn [] d w = tt
+no-turn (p ∷ ps) d w = (λ q m. (w .0 q m, d p q (here refl) (there m)), no-turn ps (λ q r m o. d q r (there m) (there o)) (w .1))
+
+-- two pairs, both the greater number first, or both the lesser
+not-turned : (p q : Pair) → p .1 < p .0 → q .1 < q .0 → turn p ≢ q
+not-turned p q h l z = let x : p .1 ≡ q .0 = ap (λ (r : Pair). r .0) z in let y : p .0 ≡ q .1 = ap (λ (r : Pair). r .1) z in absurd (omega arith)
 
 pub accepts-all-pairs : AcceptsAllPairs
-accepts-all-pairs list n e = accepts-lists list n (pairsOf list n) e .1 (record {
-  only = λ p m. let r = lists-exactly list n e (p .0) (p .1) .0 m in let g = r .0 in let h = r .1 in (h, omega arith, λ q. absurd (omega arith), r .2);
-  each = λ a b g p m. inl (lists-exactly list n e a b .1 (g, p, m));
-  once = greater-first list n e (pairsOf list n) (λ p m. lists-exactly list n e (p .0) (p .1) .0 m .0) (lists-once list n);
-})
+accepts-all-pairs list n e =
+    accepts-lists list n (pairsOf list n) e .1
+    (record {
+      only = λ p m. let r = lists-exactly list n e (p .0) (p .1) .0 m in let g = r .0 in let h = r .1 in (h, omega arith, λ q. absurd (omega arith), r .2);
+      each = λ a b g p m. inl (lists-exactly list n e a b .1 (g, p, m));
+      once = no-turn (pairsOf list n) (λ p q m o. not-turned p q (lists-exactly list n e (p .0) (p .1) .0 m .0) (lists-exactly list n e (q .0) (q .1) .0 o .0)) (lists-once list n);
+    })
+
+pub accepts-lesser-first : AcceptsLesserFirst
+accepts-lesser-first list n ps e x w =
+    accepts-lists list n ps e .1
+    (record {
+      only = λ p m. let r = x (p .0) (p .1) .0 m in let g = r .0 in let h = r .1 in (omega arith, h, λ q. absurd (omega arith), r .2);
+      each = λ a b g p m. inr (x b a .1 (g, p, turned _ _ m));
+      once = no-turn ps (λ p q m o z. not-turned (turn p) (turn q) (x (p .0) (p .1) .0 m .0) (x (q .0) (q .1) .0 o .0) (ap turn z)) w;
+    })

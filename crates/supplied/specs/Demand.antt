@@ -113,6 +113,13 @@ AcceptsLists = (list : List ℤ) (n : ℕ) (pairs : List Pair) → verdictOf lis
 abbrev pub AcceptsAllPairs : Type 0
 AcceptsAllPairs = (list : List ℤ) (n : ℕ) → verdictOf list ≡ Going n → checkedOf list (bytes (pairsOf list n)) ≡ Accepted
 
+-- a list of the meeting pairs that has each once, lesser number first as a sweep has it, is accepted
+abbrev pub AcceptsLesserFirst : Type 0
+AcceptsLesserFirst =
+    (list : List ℤ) (n : ℕ) (pairs : List Pair) → verdictOf list ≡ Going n
+    → ((a b : ℕ) → In (a, b) pairs ↔ ((a < b) × (b < n) × Meet (pieceAt list a) (pieceAt list b)))
+    → Pairwise (λ p q. p ≢ q) pairs → checkedOf list (bytes pairs) ≡ Accepted
+
 -- an accepted list is no longer accepted with an entry taken out, ..
 abbrev pub RefusesOneLess : Type 0
 RefusesOneLess =

@@ -4,7 +4,9 @@ use std::fmt::Debug;
 
 use crate::answers::{Chart, Pair};
 use crate::original::Original;
-use crate::{file, half_line, naive, order, orient, place, refusals, segment, supplied, sweep, writing};
+use crate::{
+  file, half_line, naive, order, orient, place, refusals, segment, supplied, sweep, writing,
+};
 
 pub struct Case {
   pub chart: Chart,

@@ -18,7 +18,13 @@ pub fn compare(case: &Case) -> Result<(), String> {
     compare_call(&list, &bytes(right), Ok(Said::Accepted))?;
     for (wrong, said) in damages(pieces, &meeting, right) {
       let call = || format!("the pairs {wrong:?} by the model");
-      agree(call, "damage", said, "model", model(pieces, &meeting, &wrong))?;
+      agree(
+        call,
+        "damage",
+        said,
+        "model",
+        model(pieces, &meeting, &wrong),
+      )?;
       compare_call(&list, &bytes(&wrong), Ok(said))?;
     }
   }
@@ -36,7 +42,10 @@ fn compare_call(list: &[i32], pairs: &[u8], due: Result<Said, Refusal>) -> Resul
 }
 
 fn bytes(pairs: &[Pair]) -> Vec<u8> {
-  pairs.iter().flat_map(|&(a, b)| [a as u8, b as u8]).collect()
+  pairs
+    .iter()
+    .flat_map(|&(a, b)| [a as u8, b as u8])
+    .collect()
 }
 
 /// The greater number first.
@@ -47,7 +56,10 @@ fn ordered((a, b): Pair) -> Pair {
 /// A right list with one entry taken out, repeated or replaced, and what is due to be said.
 fn damages(pieces: usize, meeting: &BTreeSet<Pair>, right: &[Pair]) -> Vec<(Vec<Pair>, Said)> {
   let Some(last) = right.len().checked_sub(1) else {
-    return vec![(vec![(0, 0)], Said::Fault(0, if pieces == 0 { 1 } else { 2 }))];
+    return vec![(
+      vec![(0, 0)],
+      Said::Fault(0, if pieces == 0 { 1 } else { 2 }),
+    )];
   };
   let every = (0..pieces).flat_map(|a| (0..a).map(move |b| (a, b)));
   let apart = every.filter(|pair| !meeting.contains(pair)).last();
