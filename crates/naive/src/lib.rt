@@ -24,6 +24,7 @@ pub struct Pieces {
     pub all: [LineSegment; MOST],
 }
 
+// The first n of the array are the chart's; the rest is never read.
 pub fn pieces_of(list: &[i32], n: usize) -> Pieces
     requires { ⌜ n ≤ most ⌝ }
     ensures { λ r. ⌜ take n (r .all) ≡ piecesOf (now (list .entry)) n ⌝ }
