@@ -265,6 +265,46 @@ static size_t every_two_cross(int32_t pieces) {
     return (size_t)(at - list);
 }
 
+static void answers_of_check(void) {
+    static const struct {
+        uint8_t bytes[6];
+        size_t size;
+        uint8_t says;
+        size_t first, second;
+    } lists[] = {
+        {{1, 0, 2, 0}, 4, MIRTALUGHE_ACCEPTED, 0, 0},
+        {{0, 2, 0, 1}, 4, MIRTALUGHE_ACCEPTED, 0, 0},
+        {{1, 0}, 2, MIRTALUGHE_MISSING, 2, 0},
+        {{2, 0, 0, 3}, 4, MIRTALUGHE_FAULT, 1, MIRTALUGHE_NO_PIECE},
+        {{0, 1, 2, 2}, 4, MIRTALUGHE_FAULT, 1, MIRTALUGHE_ITSELF},
+        {{1, 0, 2, 1}, 4, MIRTALUGHE_FAULT, 1, MIRTALUGHE_APART},
+        {{1, 0, 2, 0, 0, 1}, 6, MIRTALUGHE_FAULT, 2, MIRTALUGHE_REPEATED},
+    };
+    for (size_t i = 0; i < LENGTH(lists); i++) {
+        mirtalughe_checked checked = mirtalughe_check(gap, LENGTH(gap), lists[i].bytes, lists[i].size);
+        CHECK(checked.number == MIRTALUGHE_DONE);
+        CHECK(checked.place == 0);
+        CHECK(checked.says == lists[i].says);
+        CHECK(checked.first == lists[i].first);
+        CHECK(checked.second == lists[i].second);
+    }
+    static const uint8_t named[] = {1, 0, 9};
+    /* the end that touches is excluded */
+    mirtalughe_checked excluded = mirtalughe_check(apart, LENGTH(apart), named, 2);
+    CHECK(excluded.says == MIRTALUGHE_FAULT && excluded.first == 0 && excluded.second == MIRTALUGHE_APART);
+    mirtalughe_checked refused[] = {
+        mirtalughe_check(crossing, LENGTH(crossing), named, 3),
+        mirtalughe_check(kind, LENGTH(kind), named, 3),
+        mirtalughe_check(crossing, LENGTH(crossing) - 1, named, 2),
+    };
+    static const uint8_t due[][2] = {{MIRTALUGHE_ODD_BYTES, 0}, {MIRTALUGHE_KIND, 1}, {MIRTALUGHE_LIST_LENGTH, 0}};
+    for (size_t i = 0; i < LENGTH(refused); i++) {
+        CHECK(refused[i].number == due[i][0]);
+        CHECK(refused[i].place == due[i][1]);
+        CHECK(refused[i].says == 0 && refused[i].first == 0 && refused[i].second == 0);
+    }
+}
+
 static void sizes(void) {
     static const uint8_t no_pieces[] = {0};
     CHECK(mirtalughe_read(no_pieces, 1, list, MIRTALUGHE_LIST_ROOM).number == MIRTALUGHE_DONE);
@@ -299,6 +339,7 @@ static void null(void) {
     CHECK(mirtalughe_all_pairs(NULL, 0, NULL, 0).number == MIRTALUGHE_DONE);
     CHECK(mirtalughe_all_pairs(crossing, MIRTALUGHE_PIECE_NUMBERS, NULL, 0).number == MIRTALUGHE_DONE);
     CHECK(mirtalughe_sweep(NULL, 0, 0, NULL, 0).ended);
+    CHECK(mirtalughe_check(NULL, 0, NULL, 0).says == MIRTALUGHE_ACCEPTED);
     CHECK(mirtalughe_sweep(crossing, MIRTALUGHE_PIECE_NUMBERS, UINT32_MAX, NULL, 0).steps == 2);
 }
 
@@ -309,6 +350,7 @@ int main(void) {
     answers_of_place();
     answers_of_all_pairs();
     answers_of_sweep();
+    answers_of_check();
     numbers();
     sizes();
     version();

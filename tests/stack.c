@@ -41,6 +41,10 @@ static void sweep(void) {
     wrong |= mirtalughe_sweep(list, MIRTALUGHE_LIST_ROOM, UINT32_MAX, pairs, sizeof pairs).pairs != MIRTALUGHE_MOST_PAIRS;
 }
 
+static void check(void) {
+    wrong |= mirtalughe_check(list, MIRTALUGHE_LIST_ROOM, pairs, sizeof pairs).says != MIRTALUGHE_ACCEPTED;
+}
+
 static size_t taken(void (*call)(void)) {
     memset(stack, PAINT, ROOM);
     getcontext(&guest);
@@ -80,6 +84,7 @@ int main(void) {
         {"mirtalughe_read", read},       {"mirtalughe_orient", orient}, {"mirtalughe_compare_points", compare_points},
         {"mirtalughe_meeting", meeting}, {"mirtalughe_place", place},   {"mirtalughe_all_pairs", all_pairs},
         {"mirtalughe_sweep", sweep},     {"mirtalughe_write", write},
+        {"mirtalughe_check", check},
     };
     largest();
     size_t none = taken(nothing), most = 0;

@@ -90,6 +90,15 @@ place/specs/Pair:placeAnswerOf AnswerIsDue
         LISTS + PAIRS,
     ),
     (
+        "2, a supplier's list",
+        "supplied/specs/Demand:RefusesInOrder,SaysWhatIsDue,OneIsDue,AcceptsExactly,AcceptsLists,AcceptsAllPairs,"
+        "AcceptsLesserFirst,RefusesOneLess,RefusesAnother,RefusesTwice",
+        LISTS + PAIRS + """
+supplied/specs/Checking:checkedOf `SaysWhatIsDue` and `RefusesInOrder`
+naive/specs/AllPairs:pairsOf `ListsExactly` of naive
+""",
+    ),
+    (
         "3",
         "promises/specs/Sweep:ListsExactly,ListsInOrder,VisitsInOrder,ListsAllPairs,FullSweepBounded,FirstCommon,Ported "
         "promises/specs/Chart:NoneUpright",
@@ -111,7 +120,7 @@ decimals/specs/Decimal:decimal ReadsBack
     (
         "the calls for C",
         "chart_c/specs/Numbers:turnNumber,orderNumber chart_c/specs/Meetings:fieldsOf chart_c/specs/Places:placedOf "
-        "chart_c/specs/Sweeps:sweptFields",
+        "chart_c/specs/Sweeps:sweptFields chart_c/specs/Checks:checkedAs",
         "",
     ),
 ]

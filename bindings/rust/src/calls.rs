@@ -14,6 +14,7 @@ unsafe extern "C" {
   pub fn mirtalughe_all_pairs(list: *const i32, length: usize, pairs: *mut u8, lent: usize) -> Answer;
   pub fn mirtalughe_sweep(list: *const i32, length: usize, budget: u32, pairs: *mut u8, lent: usize)
   -> Swept;
+  pub fn mirtalughe_check(list: *const i32, length: usize, pairs: *const u8, size: usize) -> Checked;
 }
 
 #[repr(C)]
@@ -76,4 +77,13 @@ pub struct Swept {
   pub x: i64,
   pub y: i64,
   pub d: u64,
+}
+
+#[repr(C)]
+pub struct Checked {
+  pub number: u8,
+  pub place: usize,
+  pub says: u8,
+  pub first: usize,
+  pub second: usize,
 }

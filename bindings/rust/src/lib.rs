@@ -124,6 +124,30 @@ pub struct Swept<'a> {
   pub last: Option<Point>,
 }
 
+/// What is wrong with an entry of a supplier's list; of several the first.
+#[derive(Clone, Copy, PartialEq, Eq, Debug)]
+pub enum EntryFault {
+  /// One of its numbers is not a piece's.
+  NoPiece,
+  /// Both numbers are equal.
+  Itself,
+  /// Its pair does not meet.
+  Apart,
+  /// It repeats the pair of an earlier entry.
+  Repeated,
+}
+
+/// What is said of a supplier's list.
+#[derive(Clone, Copy, PartialEq, Eq, Debug)]
+pub enum Checked {
+  /// It names each pair that meets once, and no other.
+  Accepted,
+  /// The first entry at fault, counted from 0.
+  Fault { entry: usize, fault: EntryFault },
+  /// All entries are good: the first pair that meets and is not named, greater number first.
+  Missing(Pair),
+}
+
 /// Which way the points p, q, r, each x and y, turn.
 pub fn orient(p: [i16; 2], q: [i16; 2], r: [i16; 2]) -> Orientation {
   match calls::mirtalughe_orient(p[0], p[1], q[0], q[1], r[0], r[1]) {
@@ -210,4 +234,28 @@ pub fn sweep<'a>(list: &[i32], budget: u32, lent: &'a mut [u8]) -> Result<Swept<
     complete: swept.complete,
     last: swept.visited.then_some(Point { x: swept.x, y: swept.y, d: swept.d }),
   })
+}
+
+/// Holds a list of pairs, two bytes a pair in any order, to a chart: whether it names each pair that meets once, in either
+/// number order, and if not, where it is wrong.
+pub fn check(list: &[i32], pairs: &[u8]) -> Result<Checked, Refusal> {
+  // SAFETY: both pointers are good for their lengths.
+  let checked = unsafe { calls::mirtalughe_check(list.as_ptr(), list.len(), pairs.as_ptr(), pairs.len()) };
+  refusal::check(checked.number, checked.place, Given::List)?;
+  Ok(match checked.says {
+    1 => Checked::Accepted,
+    2 => Checked::Fault { entry: checked.first, fault: entry_fault(checked.second) },
+    3 => Checked::Missing([checked.first as u8, checked.second as u8]),
+    other => unreachable!("{other} is the number of nothing that is said"),
+  })
+}
+
+fn entry_fault(number: usize) -> EntryFault {
+  match number {
+    1 => EntryFault::NoPiece,
+    2 => EntryFault::Itself,
+    3 => EntryFault::Apart,
+    4 => EntryFault::Repeated,
+    other => unreachable!("{other} is the number of no fault"),
+  }
 }

@@ -16,10 +16,11 @@ pub enum Fault {
   ExtraBytes = 7,
   Room = 8,
   ListLength = 9,
+  OddBytes = 16,
 }
 
 impl Fault {
-  pub const ALL: [Fault; 9] = [
+  pub const ALL: [Fault; 10] = [
     Fault::FileEnds,
     Fault::Groups,
     Fault::Count,
@@ -29,6 +30,7 @@ impl Fault {
     Fault::ExtraBytes,
     Fault::Room,
     Fault::ListLength,
+    Fault::OddBytes,
   ];
 
   pub const fn number(self) -> u8 {
@@ -46,6 +48,7 @@ impl Fault {
       Fault::ExtraBytes => "bytes after the last piece",
       Fault::Room => "lent room too small",
       Fault::ListLength => "a list's length is no multiple of five or, in a pair call, is not ten",
+      Fault::OddBytes => "an odd number of bytes, two a pair",
     }
   }
 }

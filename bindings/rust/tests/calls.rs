@@ -173,3 +173,28 @@ fn booster_fan() {
   let found = all_pairs(list, &mut lent).unwrap().iter().map(|[a, b]| [*b, *a]);
   assert_eq!(found.collect::<BTreeSet<Pair>>(), listed.into_iter().collect());
 }
+
+/// The upright gap: pairs (1, 0) and (2, 0) meet, (2, 1) does not.
+#[test]
+fn supplied_lists() {
+  let gap = [[3, 0, 0, 0, 10], [3, -5, 3, 5, 3], [3, -5, 6, 5, 6]].concat();
+  let fault = |entry, fault| Checked::Fault { entry, fault };
+  let said: [(&[u8], Checked); 9] = [
+    (&[1, 0, 2, 0], Checked::Accepted),
+    (&[0, 2, 0, 1], Checked::Accepted),
+    (&[], Checked::Missing([1, 0])),
+    (&[0, 1], Checked::Missing([2, 0])),
+    (&[2, 0, 0, 3], fault(1, EntryFault::NoPiece)),
+    (&[2, 2, 9, 9], fault(0, EntryFault::Itself)),
+    (&[9, 9], fault(0, EntryFault::NoPiece)),
+    (&[1, 0, 2, 1], fault(1, EntryFault::Apart)),
+    (&[1, 0, 2, 0, 0, 1], fault(2, EntryFault::Repeated)),
+  ];
+  for (pairs, due) in said {
+    assert_eq!(check(&gap, pairs), Ok(due), "{pairs:?}");
+  }
+  let refused = check(&gap, &[1, 0, 2]).unwrap_err();
+  assert_eq!((refused.fault, refused.place), (Fault::OddBytes, 0));
+  assert_eq!(check(&gap[1..], &[1]).unwrap_err().fault, Fault::ListLength);
+  assert_eq!(check(&[], &[]), Ok(Checked::Accepted));
+}

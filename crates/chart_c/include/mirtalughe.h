@@ -30,9 +30,9 @@ extern "C" {
 
 /* ---- version: of what this header says. MAJOR grows where a program that was right may have to change. */
 #define MIRTALUGHE_VERSION_MAJOR 0
-#define MIRTALUGHE_VERSION_MINOR 5
+#define MIRTALUGHE_VERSION_MINOR 6
 #define MIRTALUGHE_VERSION_PATCH 0
-#define MIRTALUGHE_VERSION "0.5.0"
+#define MIRTALUGHE_VERSION "0.6.0"
 
 /* ---- sizes */
 #define MIRTALUGHE_MOST_PIECES 64 /* of a chart */
@@ -54,8 +54,8 @@ extern "C" {
 #define MIRTALUGHE_MOST_STEPS (2 * MIRTALUGHE_MOST_PIECES + MIRTALUGHE_MOST_PAIRS)
 
 /* ---- refusals: what `number` is. A file is looked at for ROOM first and then in reading order, EXTRA_BYTES last; a
-   list for LIST_LENGTH, COUNT, then piece by piece for KIND, COORDINATE and NO_LENGTH, then for ROOM. The first fault
-   is told. */
+   list for LIST_LENGTH, COUNT, then piece by piece for KIND, COORDINATE and NO_LENGTH, then for ROOM or, where pairs
+   are given, for ODD_BYTES. The first fault is told. */
 typedef enum {
     /* done. Place: 0. */
     MIRTALUGHE_DONE = 0,
@@ -77,7 +77,9 @@ typedef enum {
     /* lent room too small. Place: 0. */
     MIRTALUGHE_ROOM = 8,
     /* a list's length is no multiple of five or, in a pair call, is not ten. Place in a list: 0. */
-    MIRTALUGHE_LIST_LENGTH = 9
+    MIRTALUGHE_LIST_LENGTH = 9,
+    /* an odd number of bytes, two a pair. Place in a list: 0. */
+    MIRTALUGHE_ODD_BYTES = 16
 } mirtalughe_refusal;
 
 /* ---- answers. `number` is one of mirtalughe_refusal, and `place` a byte of the file or the number of a piece. */
@@ -135,6 +137,28 @@ typedef struct {
     uint64_t d;
 } mirtalughe_swept;
 
+/* What is said of a list of pairs, what `first` and `second` are then, and the faults of an entry: of several it has the
+   first. Refused, `says` is 0. */
+typedef enum {
+    MIRTALUGHE_ACCEPTED = 1, /* each meeting pair is named once, and no other; both are 0 */
+    MIRTALUGHE_FAULT = 2, /* the first entry at fault, counted from 0, and its fault */
+    MIRTALUGHE_MISSING = 3 /* all entries are good; the first pair that meets and is not named, greater number first */
+} mirtalughe_says;
+
+typedef enum {
+    MIRTALUGHE_NO_PIECE = 1, /* one of its numbers is not a piece's */
+    MIRTALUGHE_ITSELF = 2, /* both numbers are equal */
+    MIRTALUGHE_APART = 3, /* its pair does not meet */
+    MIRTALUGHE_REPEATED = 4 /* it repeats the pair of an earlier entry */
+} mirtalughe_entry_fault;
+
+typedef struct {
+    uint8_t number;
+    size_t place;
+    uint8_t says;
+    size_t first, second;
+} mirtalughe_checked;
+
 /* ---- calls */
 
 /* Which way the three points turn: 1 counter-clockwise, -1 clockwise, 0 not at all. It is exact for every int16_t. */
@@ -170,6 +194,10 @@ mirtalughe_answer mirtalughe_all_pairs(const int32_t *list, size_t length, uint8
    piece that is the order of their first common points, then of the lesser number, then of the greater. `lent` is at
    least MIRTALUGHE_PAIRS_ROOM(n). Bytes past the last pair keep their values. */
 mirtalughe_swept mirtalughe_sweep(const int32_t *list, size_t length, uint32_t budget, uint8_t *pairs, size_t lent);
+
+/* Holds a list of pairs, `size` bytes, two a pair in any order, to a list's pieces: whether it names each pair that meets
+   once, in either number order, and if not, where it is wrong. A list of pairs may be of any length. Nothing is lent. */
+mirtalughe_checked mirtalughe_check(const int32_t *list, size_t length, const uint8_t *pairs, size_t size);
 
 #ifdef __cplusplus
 }

@@ -10,7 +10,9 @@ ghost use Rattle.chart_writer.specs.Writing.{Writes};
 ghost use Rattle.naive.specs.AllPairs.{allPairsOf, lentAfter};
 ghost use Rattle.bentley_ottmann.specs.Swept.{sweepOf};
 ghost use Rattle.bentley_ottmann.specs.Swept.{lentAfter as sweptAfter};
+ghost use Rattle.supplied.specs.Checking.{checkedOf};
 ghost use Rattle.chart_c.specs.Sweeps.{sweptAs, sweptFields};
+ghost use Rattle.chart_c.specs.Checks.{checkedAs};
 ghost use Rattle.chart_c.specs.Numbers.{turnNumber, orderNumber, pointOf};
 ghost use Rattle.chart_c.specs.Meetings.{noEnd, endFields, metAs, fieldsOf};
 ghost use Rattle.chart_c.specs.Places.{placedAs, placedOf};
@@ -23,6 +25,7 @@ use line_segment::EndPoint;
 use line_segment::Meeting;
 use orientation::Orientation;
 use place::Place;
+use supplied::Checked;
 
 // An end of a stretch.
 #[repr(C)]
@@ -69,6 +72,17 @@ pub struct SweptFields {
     pub x: i64,
     pub y: i64,
     pub d: u64,
+}
+
+// What is said of a supplier's list: `says` is 1 where it is accepted, 2 where entry `first` has fault `second`, and 3
+// where the pair of pieces `first` and `second` is missing.
+#[repr(C)]
+pub struct CheckedFields {
+    pub number: u8,
+    pub place: usize,
+    pub says: u8,
+    pub first: usize,
+    pub second: usize,
 }
 
 // Which way the three points turn, as its number.
@@ -277,4 +291,47 @@ pub extern "C" fn mirtalughe_sweep(list: &[i32], budget: u32, pairs: &mut [u8]) 
     let swept = bentley_ottmann::sweep(list, budget, pairs);
     let last = swept.last;
     swept_fields(swept, last)
+}
+
+fn checked_fields(checked: Checked) -> CheckedFields
+    ensures { λ r. ⌜ r ≡ checkedAs checked ⌝ }
+{
+    match checked {
+        Checked::Accepted => CheckedFields {
+            number: 0,
+            place: 0,
+            says: 1,
+            first: 0,
+            second: 0,
+        },
+        Checked::Fault(i, fault) => CheckedFields {
+            number: 0,
+            place: 0,
+            says: 2,
+            first: i,
+            second: fault,
+        },
+        Checked::Missing(a, b) => CheckedFields {
+            number: 0,
+            place: 0,
+            says: 3,
+            first: a,
+            second: b,
+        },
+        Checked::Refused(number, place) => CheckedFields {
+            number,
+            place,
+            says: 0,
+            first: 0,
+            second: 0,
+        },
+    }
+}
+
+// Whether a list of pairs names each meeting pair of a chart once, and if not, where it is wrong.
+#[no_mangle]
+pub extern "C" fn mirtalughe_check(list: &[i32], pairs: &[u8]) -> CheckedFields
+    ensures { λ r. ⌜ r ≡ checkedAs (checkedOf (now (list .entry)) (now (pairs .entry))) ⌝ }
+{
+    checked_fields(supplied::check(list, pairs))
 }

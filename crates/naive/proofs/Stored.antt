@@ -51,9 +51,13 @@ module _ (list : List ℤ) where
     at : (i : ℕ) → i < n → getD all i blank ≡ pieceAt list i
     at i h = sym (getD-take n all i blank h) ∙ ap (λ (l : List LineSegment). getD l i blank) stored ∙ piece-of n i h
 
+    pub same-test : (a b : ℕ) → a < n → b < n → meetsIn all a b ≡ meets list a b
+    unfolding meets meetsIn
+    same-test a b h l = rw (at a h, at b l)
+
     pub same-pairs : rows (meetsIn all) n ≡ pairsOf list n
-    unfolding pairsOf meets meetsIn
-    same-pairs = rows-same (meetsIn all) (meets list) n (λ a b h l. rw (at a h, at b (omega arith)))
+    unfolding pairsOf
+    same-pairs = rows-same (meetsIn all) (meets list) n (λ a b h l. same-test a b h (omega arith))
 
     -- an accepted chart's pieces have some length
     pub stored-long : verdictOf list ≡ Accepted n → Long all n

@@ -20,11 +20,12 @@ use line_segment::LineSegment;
 use line_segment::Meeting;
 
 // The pieces of a chart, each read from the list once.
-struct Pieces {
-    all: [LineSegment; MOST],
+pub struct Pieces {
+    pub all: [LineSegment; MOST],
 }
 
-fn pieces_of(list: &[i32], n: usize) -> Pieces
+// The first n of the array are the chart's; the rest is never read.
+pub fn pieces_of(list: &[i32], n: usize) -> Pieces
     requires { ⌜ n ≤ most ⌝ }
     ensures { λ r. ⌜ take n (r .all) ≡ piecesOf (now (list .entry)) n ⌝ }
 {
@@ -77,7 +78,7 @@ fn is_across(a: LineSegment, b: LineSegment) -> bool
 }
 
 // Whether a, asking, meets b.
-fn meets(a: LineSegment, b: LineSegment) -> bool
+pub fn meets(a: LineSegment, b: LineSegment) -> bool
     requires { ⌜ HasLength a × HasLength b ⌝ }
     ensures { λ r. ⌜ r ≡ saysYes (intersectOf a b) ⌝ }
 {

@@ -4,7 +4,9 @@ use std::fmt::Debug;
 
 use crate::answers::{Chart, Pair};
 use crate::original::Original;
-use crate::{file, half_line, naive, order, orient, place, refusals, segment, sweep, writing};
+use crate::{
+  file, half_line, naive, order, orient, place, refusals, segment, supplied, sweep, writing,
+};
 
 pub struct Case {
   pub chart: Chart,
@@ -40,6 +42,7 @@ pub fn check(chart: &Chart) -> Result<(), String> {
   half_line::compare(&case)?;
   order::compare(&case)?;
   naive::compare(&case)?;
+  supplied::compare(&case)?;
   sweep::compare(&case)?;
   refusals::compare(&case)?;
   file::compare(&case)?;

@@ -21,6 +21,7 @@ unsafe extern "C" {
     pairs: *mut u8,
     lent: usize,
   ) -> SweptFields;
+  fn mirtalughe_check(list: *const i32, length: usize, pairs: *const u8, size: usize) -> Checked;
 }
 
 #[repr(C)]
@@ -59,6 +60,23 @@ struct SweptFields {
   x: i64,
   y: i64,
   d: u64,
+}
+
+#[repr(C)]
+struct Checked {
+  number: u8,
+  place: usize,
+  says: u8,
+  first: usize,
+  second: usize,
+}
+
+/// What is said of a supplier's list.
+#[derive(Clone, Copy, PartialEq, Eq, Debug)]
+pub enum Said {
+  Accepted,
+  Fault(usize, usize),
+  Missing(usize, usize),
 }
 
 pub fn orient(p: [i32; 2], q: [i32; 2], r: [i32; 2]) -> Side {
@@ -149,5 +167,17 @@ pub fn sweep(list: &[i32], budget: u32, pairs: &mut [u8]) -> Swept {
     ended: told.ended,
     complete: told.complete,
     last: told.visited.then_some(point),
+  }
+}
+
+/// What is said of a supplier's list, or why the call is refused. Fields that are not in use are zero.
+pub fn check(list: &[i32], pairs: &[u8]) -> Result<Said, Refusal> {
+  let told = unsafe { mirtalughe_check(list.as_ptr(), list.len(), pairs.as_ptr(), pairs.len()) };
+  match (told.number, told.place, told.says, told.first, told.second) {
+    (0, 0, 1, 0, 0) => Ok(Said::Accepted),
+    (0, 0, 2, entry, fault) => Ok(Said::Fault(entry, fault)),
+    (0, 0, 3, a, b) => Ok(Said::Missing(a, b)),
+    (number, place, 0, 0, 0) if number > 0 => Err((number, place)),
+    other => panic!("{other:?} is no answer"),
   }
 }

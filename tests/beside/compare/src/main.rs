@@ -30,6 +30,7 @@ mod refusals;
 mod scope;
 mod segment;
 mod shrink;
+mod supplied;
 mod sweep;
 mod sweep_call;
 mod text;
