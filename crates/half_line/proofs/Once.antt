@@ -1,0 +1,7 @@
+-- "For each input .. it allows one result": of each public function's contract, as the check reads it.
+use mathlib.Core.Path.{sym, _∙_}
+use Rattle.fractions.specs.Demand.{OneResult}
+use Rattle.half_line.proofs.intersect.Reads as intersect
+
+pub intersect-once : OneResult intersect.Post
+intersect-once κs a r r′ s s′ h k = h ∙ sym k

@@ -1,0 +1,2 @@
+-- In quotation marks: docs/CHART.md, half-line.
+pub mod HalfLine
