@@ -1,1 +1,7 @@
+-- From another crate: `use Rattle.outline.proofs.FILE.{..}`.
+--   what `first` finds               First       found, none, more
+--   the verdict, test by test        Verdicts    an-outline, off-corner, accepted
+--   each contract allows one result  Once
 pub mod First
+pub mod Verdicts
+pub mod Once

@@ -32,9 +32,11 @@ fn number_at(outline: &[i32], i: usize, k: usize) -> i32
 
 // The corner after corner i of n: the first follows the last.
 fn next_of(n: usize, i: usize) -> usize
-    requires { ⌜ i < n ⌝ }
     ensures { λ r. ⌜ r ≡ nextOf n i ⌝ }
 {
+    if n <= i {
+        return 0;
+    }
     let j = i + 1;
     if j < n { j } else { 0 }
 }
@@ -46,7 +48,6 @@ fn is_off(outline: &[i32], i: usize) -> bool
 }
 
 fn is_repeated(outline: &[i32], n: usize, i: usize) -> bool
-    requires { ⌜ i < n ⌝ }
     ensures { λ r. ⌜ r ≡ sameAt (now (outline .entry)) n i ⌝ }
 {
     let j = next_of(n, i);
@@ -67,7 +68,6 @@ fn coordinate_at(outline: &[i32], i: usize, k: usize) -> i16
 
 // The side from corner i of n to the next, both ends included.
 pub fn side_of(outline: &[i32], n: usize, i: usize) -> LineSegment
-    requires { ⌜ i < n ⌝ }
     ensures { λ r. ⌜ r ≡ sideOf (now (outline .entry)) n i ⌝ }
 {
     let j = next_of(n, i);

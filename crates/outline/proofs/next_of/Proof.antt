@@ -1,20 +1,26 @@
+-- `outline::next_of` meets its contract: each branch knows whether there is a corner after.
 use borrow.Author.Needs.{needs}
+use Prim.Native.Nat.{_+_}
+use native.Mathlib.Omega.{arith}
+use borrow.Author.Tests.{lt-ltb, le-ltb}
+use Rattle.outline.specs.Outline.{nextOf}
 use Rattle.outline.proofs.next_of.Statement.{statement}
 use Rattle.outline.proofs.next_of.Tie as tie
-use Rattle.outline.proofs.next_of.Reads as reads
-use Rattle.outline.proofs.next_of.Lts as lts
 
--- src/lib.rt:38:13
+returns : tie.Need-returns
+unfolding nextOf
+returns c = rw (le-ltb (c .before .args .i + 1) (c .before .args .n) (omega arith))
+
 add-j : tie.Need-add-j
 add-j c = search needs
 
--- src/lib.rt:34:1
-returns : tie.Need-returns
-returns c = ?
-
--- src/lib.rt:34:1
 returns-2 : tie.Need-returns-2
-returns-2 c = ?
+unfolding nextOf
+returns-2 c = rw (lt-ltb _ _ (c .if2 .taken))
+
+returns-3 : tie.Need-returns-3
+unfolding nextOf
+returns-3 c = rw (le-ltb _ _ (c .if2 .left))
 
 pub next-of-spec : {M : Type 1} → statement M
-next-of-spec = tie.close (tie.spec add-j returns returns-2)
+next-of-spec = tie.close (tie.spec returns add-j returns-2 returns-3)

@@ -1,36 +1,36 @@
+-- `outline::number_at` meets its contract: past the end the definition reads 0 too.
 use borrow.Author.Needs.{needs}
+use mathlib.Core.Path.{sym}
+use native.Mathlib.Omega.{arith}
+use lib.IntN.{pos}
+use lib.ListN.{List·getD-eq-default}
+use Rattle.outline.specs.Outline.{numberAt}
 use Rattle.outline.proofs.number_at.Statement.{statement}
 use Rattle.outline.proofs.number_at.Tie as tie
-use Rattle.outline.proofs.number_at.Reads as reads
-use Rattle.outline.proofs.number_at.Lts as lts
 
--- src/lib.rt:24:9
 returns : tie.Need-returns
-returns c = ?
+unfolding numberAt
+returns c = sym (List·getD-eq-default (c .before .args .outline .now) (pos 0) (omega arith))
 
--- src/lib.rt:26:14
 mul-at : tie.Need-mul-at
 mul-at c = search needs
 
--- src/lib.rt:26:14
 add-at : tie.Need-add-at
 add-at c = search needs
 
--- src/lib.rt:28:9
 returns-2 : tie.Need-returns-2
-returns-2 c = ?
+unfolding numberAt
+returns-2 c = sym (List·getD-eq-default (c .before .before .args .outline .now) (pos 0) (omega arith))
 
--- src/lib.rt:30:5
 mul-result : tie.Need-mul-result
 mul-result c = search needs
 
--- src/lib.rt:30:5
 shared-slice-copy-out-result : tie.Need-shared-slice-copy-out-result
 shared-slice-copy-out-result c = search needs
 
--- src/lib.rt:19:1
 returns-3 : tie.Need-returns-3
-returns-3 c = ?
+unfolding numberAt
+returns-3 c = search needs
 
 pub number-at-spec : {M : Type 1} → statement M
 number-at-spec =
