@@ -1,0 +1,2 @@
+-- In quotation marks: docs/CHART.md, region, refusals of a region, refusal.
+pub mod Region
