@@ -3,6 +3,8 @@ use line_segment::EndPoint;
 use line_segment::LineSegment;
 use orientation::Orientation;
 ghost use mathlib.Core.Path.{_≡_};
+ghost use Rattle.charts.specs.Fault.{faultOf};
+ghost use Rattle.half_line.specs.Call.{cornerAt, faultThen, halfLineAnswerOf};
 ghost use Rattle.half_line.specs.HalfLine.{cornerOf, leansOf, passesOf, pointTurn, halfLineOf};
 
 // What a half-line and a piece have in common. Crossing carries CoLinear where the ends lie on both sides of the line,
@@ -16,6 +18,12 @@ pub enum IHalfLineLineSegmentSoS {
 pub struct Corner {
     pub x: i16,
     pub y: i16,
+}
+
+// What the half-line's call returns: zero where it is done, else the number of a refusal, whose place is zero.
+pub struct HalfLineAnswer {
+    pub number: u8,
+    pub meeting: IHalfLineLineSegmentSoS,
 }
 
 // Where an end stands.
@@ -72,4 +80,53 @@ pub fn intersect(from: Corner, through: Corner, s: LineSegment) -> IHalfLineLine
         return leans(to_min, turn(max, min, from));
     }
     passes(to_min, to_max, turn(min, max, from))
+}
+
+// The point of two numbers.
+pub fn corner_at(x: i32, y: i32) -> Corner
+    ensures { λ r. ⌜ r ≡ cornerAt x y ⌝ }
+{
+    Corner {
+        x: charts::coordinate(x),
+        y: charts::coordinate(y),
+    }
+}
+
+// The piece's fault, and where it has none that of the two points, which are judged as the ends of a piece are.
+fn fault(kind: i32, x1: i32, y1: i32, x2: i32, y2: i32, through: u8) -> u8
+    ensures { λ r. ⌜ r ≡ faultThen (faultOf kind x1 y1 x2 y2) through ⌝ }
+{
+    let first = charts::fault_of(kind, x1, y1, x2, y2);
+    if first != 0 {
+        return first;
+    }
+    through
+}
+
+// How the half-line from x, y through tx, ty meets the piece of five numbers.
+pub fn asked(
+    kind: i32,
+    x1: i32,
+    y1: i32,
+    x2: i32,
+    y2: i32,
+    x: i32,
+    y: i32,
+    tx: i32,
+    ty: i32,
+) -> HalfLineAnswer
+    ensures { λ r. ⌜ r ≡ halfLineAnswerOf kind x1 y1 x2 y2 x y tx ty ⌝ }
+{
+    let five = [kind, x1, y1, x2, y2];
+    let number = fault(kind, x1, y1, x2, y2, charts::fault_of(3, x, y, tx, ty));
+    if number != 0 {
+        return HalfLineAnswer {
+            number,
+            meeting: IHalfLineLineSegmentSoS::Nothing,
+        };
+    }
+    HalfLineAnswer {
+        number: 0,
+        meeting: intersect(corner_at(x, y), corner_at(tx, ty), charts::piece_at(&five, 0)),
+    }
 }

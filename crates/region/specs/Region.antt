@@ -11,15 +11,12 @@ use Rattle.half_line.specs.declared.Corner.{Corner}
 use Rattle.half_line.specs.declared.IHalfLineLineSegmentSoS.{IHalfLineLineSegmentSoS}
 use Rattle.half_line.specs.declared.IHalfLineLineSegmentSoS.the-variants.{Nothing, Crossing}
 use Rattle.half_line.specs.HalfLine.{halfLineOf}
-use Rattle.charts.specs.Piece.{coordinateOf}
+use Rattle.half_line.specs.Call.{cornerAt}
 use Rattle.charts.specs.declared.Verdict.{Verdict}
 use Rattle.outline.specs.Counting.{first, count}
 use Rattle.outline.specs.Outline.{sideOf, verdictOf}
 use Rattle.region.specs.declared.Region.{Region}
 use Rattle.region.specs.declared.RegionAnswer.{RegionAnswer}
-
-abbrev pub peakOf : ℤ → ℤ → Corner
-peakOf x y = record { x = coordinateOf x; y = coordinateOf y }
 
 -- "the half-line towards (x+1, y)"
 abbrev pub rightOf : Corner → Corner
@@ -52,4 +49,4 @@ answerBy region (Verdict.Accepted n) = record { number = 0; place = 0; region = 
 answerBy region (Verdict.Refused number place) = record { number = number; place = place; region = Region.None }
 
 unfoldable pub regionAnswerOf : List ℤ → ℤ → ℤ → RegionAnswer
-regionAnswerOf outline x y = answerBy (λ n. regionOf outline n (peakOf x y)) (verdictOf outline x y)
+regionAnswerOf outline x y = answerBy (λ n. regionOf outline n (cornerAt x y)) (verdictOf outline x y)

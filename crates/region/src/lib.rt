@@ -6,7 +6,7 @@ ghost use lib.Dec.{ltb};
 ghost use lib.IntN.{pos};
 ghost use lib.Signed.{_<ℤ_};
 ghost use Rattle.outline.specs.Counting.{first, count};
-ghost use Rattle.region.specs.Region.{rightOf, peakOf, counted, onSide, metSide, parity, regionOf, regionAnswerOf};
+ghost use Rattle.region.specs.Region.{rightOf, counted, onSide, metSide, parity, regionOf, regionAnswerOf};
 use charts::Verdict;
 use half_line::Corner;
 use half_line::IHalfLineLineSegmentSoS;
@@ -91,15 +91,6 @@ fn region_at(outline: &[i32], n: usize, p: Corner) -> Region
     Region::Outside
 }
 
-fn peak(x: i32, y: i32) -> Corner
-    ensures { λ r. ⌜ r ≡ peakOf x y ⌝ }
-{
-    Corner {
-        x: charts::coordinate(x),
-        y: charts::coordinate(y),
-    }
-}
-
 // Where the peak x, y lies to the region of an outline, two numbers a corner.
 pub fn locate(outline: &[i32], x: i32, y: i32) -> RegionAnswer
     ensures { λ r. ⌜ r ≡ regionAnswerOf (now (outline .entry)) x y ⌝ }
@@ -113,7 +104,7 @@ pub fn locate(outline: &[i32], x: i32, y: i32) -> RegionAnswer
         Verdict::Accepted(n) => RegionAnswer {
             number: 0,
             place: 0,
-            region: region_at(outline, n, peak(x, y)),
+            region: region_at(outline, n, half_line::corner_at(x, y)),
         },
     }
 }

@@ -8,7 +8,8 @@ use Rattle.charts.specs.declared.Verdict.the-variants.{Accepted}
 use Rattle.half_line.specs.declared.Corner.{Corner}
 use Rattle.outline.specs.Outline.{verdictOf}
 use Rattle.outline.proofs.Peaks.{peak-below}
-use Rattle.region.specs.Region.{peakOf, regionAnswerOf}
+use Rattle.half_line.specs.Call.{cornerAt}
+use Rattle.region.specs.Region.{regionAnswerOf}
 use Rattle.region.proofs.locate.Statement.{statement}
 use Rattle.region.proofs.locate.Tie as tie
 
@@ -21,8 +22,8 @@ enum-known-number c = search needs
 enum-known-n : tie.Need-enum-known-n
 enum-known-n c = search needs
 
-peak-requires : tie.Need-peak-requires
-peak-requires c κs = search needs
+corner-at-requires : tie.Need-corner-at-requires
+corner-at-requires c κs = search needs
 
 -- the verdict on the numbers themselves, and the peak
 said : (c : tie.After-known-told2) → let a = c .before .before .before .before .args in verdictOf (a .outline .now) (a .x) (a .y) ≡ Accepted (c .before .n .given .0 .0)
@@ -31,8 +32,8 @@ said c =
     let f = c .before .before .before .before .fits in
     sym (ap₂ (verdictOf (a .outline .now)) (toZ-ofZ (f .x)) (toZ-ofZ (f .y))) ∙ sym (c .before .before .before .verdict-of .ensures) ∙ c .before .n .given .1
 
-peaked : (c : tie.After-peak) → let a = c .before .before .before .before .before .args in c .peak .result ≡ peakOf (a .x) (a .y)
-peaked c = let f = c .before .before .before .before .before .fits in c .peak .ensures ∙ ap₂ peakOf (toZ-ofZ (f .x)) (toZ-ofZ (f .y))
+peaked : (c : tie.After-corner-at) → let a = c .before .before .before .before .before .args in c .corner-at .result ≡ cornerAt (a .x) (a .y)
+peaked c = let f = c .before .before .before .before .before .fits in c .corner-at .ensures ∙ ap₂ cornerAt (toZ-ofZ (f .x)) (toZ-ofZ (f .y))
 
 region-at-requires : tie.Need-region-at-requires
 region-at-requires c κs = subst (λ (q : Corner). (q .x) <ℤ pos 32767) (sym (peaked c)) (peak-below _ _ _ (said (c .before)))
@@ -52,7 +53,7 @@ locate-spec =
     verdict-of-requires
     enum-known-number
     enum-known-n
-    peak-requires
+    corner-at-requires
     region-at-requires
     returns
     returns-2)
