@@ -127,6 +127,10 @@ pub fn asked(
     }
     HalfLineAnswer {
         number: 0,
-        meeting: intersect(corner_at(x, y), corner_at(tx, ty), charts::piece_at(&five, 0)),
+        meeting: intersect(
+            corner_at(x, y),
+            corner_at(tx, ty),
+            charts::piece_at(&five, 0),
+        ),
     }
 }

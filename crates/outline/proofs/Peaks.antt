@@ -19,7 +19,7 @@ use Rattle.charts.proofs.Ranges.{coordinate-kept}
 use Rattle.outline.specs.Counting.{first}
 use Rattle.outline.specs.Outline.{offAt, sameAt, offPeak, noOutline, verdictOf}
 
-or-false : (a b : Bool) → (a || b) ≡ false → (a ≡ false) × (b ≡ false)
+pub or-false : (a b : Bool) → (a || b) ≡ false → (a ≡ false) × (b ≡ false)
 or-false true b e = no (cc)
 or-false false b e = (refl, e)
 
