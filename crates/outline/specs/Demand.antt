@@ -7,10 +7,12 @@ use Prim.Native.Nat.{ℕ, _*_, _<_, _≤_}
 use lib.IntN.{ℤ, pos}
 use lib.ListN.{length}
 use lib.Signed.{_<ℤ_}
+use Rattle.line_segment.specs.Piece.{pieceOf, HasLength}
+use Rattle.charts.specs.Piece.{coordinateOf}
 use Rattle.charts.specs.Demand.{Off}
 use Rattle.charts.specs.declared.Verdict.{Verdict}
 use Rattle.charts.specs.declared.Verdict.the-variants.{Accepted, Refused}
-use Rattle.outline.specs.Outline.{fewest, most, numberAt, nextOf, verdictOf}
+use Rattle.outline.specs.Outline.{fewest, most, numberAt, nextOf, sideOf, verdictOf}
 
 module _ (outline : List ℤ) where
   -- "closed outlines of 3 to 64 corners", two numbers each
@@ -51,3 +53,19 @@ module _ (outline : List ℤ) where
 
 abbrev pub RefusesExactly : Type 0
 RefusesExactly = (outline : List ℤ) (x y : ℤ) (v : Verdict) → (verdictOf outline x y ≡ v) ↔ Due outline x y v
+
+-- ---- the sides of an accepted outline
+-- side i is made of the numbers as they stand, from corner i to its next
+abbrev pub SidesAsGiven : Type 0
+SidesAsGiven =
+    (outline : List ℤ) (x y : ℤ) (n i : ℕ) → verdictOf outline x y ≡ Accepted n → i < n
+    → sideOf outline n i ≡ pieceOf 3 (numberAt outline i 0) (numberAt outline i 1) (numberAt outline (nextOf n i) 0) (numberAt outline (nextOf n i) 1)
+
+abbrev pub SidesHaveLength : Type 0
+SidesHaveLength = (outline : List ℤ) (x y : ℤ) (n i : ℕ) → verdictOf outline x y ≡ Accepted n → i < n → HasLength (sideOf outline n i)
+
+-- the peak is the point of its two numbers, and there is one to the right of it
+abbrev pub PeakAsGiven : Type 0
+PeakAsGiven =
+    (outline : List ℤ) (x y : ℤ) (n : ℕ) → verdictOf outline x y ≡ Accepted n
+    → (coordinateOf x ≡ x) × (coordinateOf y ≡ y) × (x <ℤ pos 32767)
