@@ -3,19 +3,21 @@ use mathlib.Core.Path.{_≡_, refl}
 use mathlib.Core.Bool.{Bool, true, false, cond, _||_}
 use mathlib.Core.List.{List}
 use mathlib.Core.Logic.{inl, inr}
-use Prim.Native.Nat.{ℕ, _/_}
+use Prim.Native.Nat.{ℕ, _/_, _<_, _^_}
 use native.Mathlib.Omega.{arith}
 use borrow.Author.Tests.{ltb-false}
 use lib.Dec.{ltb, lt→ltb}
-use lib.IntN.{ℤ, pos, negsuc, negℤ}
+use lib.IntN.{ℤ, pos, negsuc, negℤ, natAbs}
 use lib.ListN.{length}
 use lib.Signed.{ltZ, _<ℤ_, _≤ℤ_}
+use mir.Syntax.{w16}
+use mir.Facts.{fits-natAbs}
 use Rattle.line_segment.proofs.Booleans.{no}
 use Rattle.charts.specs.Fault.{range, outside, offRange}
 use Rattle.charts.specs.Piece.{coordinateOf}
 use Rattle.charts.specs.declared.Verdict.{Verdict}
 use Rattle.charts.specs.declared.Verdict.the-variants.{Accepted, Refused}
-use Rattle.charts.proofs.Ranges.{coordinate-kept}
+use Rattle.charts.proofs.Ranges.{coordinate-fits, coordinate-kept}
 use Rattle.outline.specs.Counting.{first}
 use Rattle.outline.specs.Outline.{offAt, sameAt, offPeak, noOutline, verdictOf}
 
@@ -49,6 +51,13 @@ module _ (outline : List ℤ) (x y : ℤ) {n : ℕ} (e : verdictOf outline x y �
 
   pub peak-y : coordinateOf y ≡ y
   peak-y = coordinate-kept y (in-range .1)
+
+  -- far below what a point of the chart may be
+  pub peak-small : (natAbs x < 2 ^ 48) × (natAbs y < 2 ^ 48)
+  peak-small = (small x (in-range .0), small y (in-range .1))
+    where
+      small : (v : ℤ) → outside (negℤ range) range v ≡ false → natAbs v < 2 ^ 48
+      small v h = let k = fits-natAbs {w = w16} {w′ = w16} tt (coordinate-fits v h) .fits in omega (arith, k)
 
   -- there is a point to the right of it
   pub peak-below : coordinateOf x <ℤ pos 32767

@@ -4,11 +4,11 @@ use mathlib.Core.Bool.{Bool, true, false, cond, not, _&&_, _||_}
 use mathlib.Core.List.{List, [], _∷_}
 use Prim.Native.Nat.{ℕ, zero, suc, _+_}
 use lib.Dec.{ltb}
-use lib.IntN.{ℤ, pos, negsuc, negℤ, _+ℤ_, _-ℤ_, _*ℤ_}
-use lib.Signed.{ltZ, _<ℤ_, _≤ℤ_}
-use Rattle.integers.proofs.Order.{Tri, less, same, more, tri}
-use Rattle.integers.proofs.Signs.{<-diff}
-use Rattle.orientation.proofs.Signs.{turn-above, turn-below, turn-neither}
+use lib.IntN.{ℤ, pos, negsuc, negℤ, _+ℤ_, _-ℤ_, _*ℤ_, +ℤ-invr}
+use lib.Signed.{ltZ, _<ℤ_, clashℤ}
+use Rattle.integers.proofs.Order.{Tri, less, same, more, tri, ≡→≤, <-cert}
+use Rattle.integers.proofs.Signs.{<-diff, <→≤}
+use Rattle.orientation.proofs.Signs.{turn-above, turn-below}
 use Rattle.integers.proofs.Identity.{by-ring, terms}
 use Rattle.orientation.specs.declared.Orientation.{Orientation}
 use Rattle.orientation.specs.declared.Orientation.the-variants.{CounterClockWise, ClockWise, CoLinear}
@@ -19,7 +19,8 @@ use Rattle.half_line.specs.declared.Corner.{Corner}
 use Rattle.half_line.specs.declared.IHalfLineLineSegmentSoS.{IHalfLineLineSegmentSoS}
 use Rattle.half_line.specs.declared.IHalfLineLineSegmentSoS.the-variants.{Nothing, Crossing}
 use Rattle.half_line.specs.HalfLine.{cornerOf, leansOf, passesOf, pointTurn, halfLineOf}
-use Rattle.outline.specs.Counting.{first, count}
+use Rattle.charts.proofs.Rows.{is-true, is-false, says-lt}
+use Rattle.outline.specs.Counting.{count}
 use Rattle.outline.specs.Outline.{sideOf}
 use Rattle.region.specs.Region.{counted, rightOf, metSide, parity, regionOf}
 use Rattle.region.specs.Demand.{above, rises, crossesRight, CountsHalfOpen, evenOdd, EvenOdd}
@@ -34,12 +35,16 @@ height p e = ap turnOf (height₀ (p .x) (p .y) (e .x) (e .y))
 
 -- the sign of a difference
 above-turn : (y v : ℤ) → ltZ y v ≡ isLeft (turnOf (v -ℤ y))
+unfolding turnOf
 above-turn y v = go (tri y v)
   where
+    under : v <ℤ y → (v -ℤ y) <ℤ pos 0
+    under h = <-cert (y ∷ v ∷ []) (<-diff h) (search terms depth 60 fits 20000) tt
+
     go : Tri y v → ltZ y v ≡ isLeft (turnOf (v -ℤ y))
-    go (less h) = ltZ-true h ∙ sym (ap isLeft (turn-above (<-diff h)))
-    go (same e) = ?
-    go (more h) = ?
+    go (less h) = is-true (says-lt y v) h ∙ sym (ap isLeft (turn-above (<-diff h)))
+    go (same e) = is-false (says-lt y v) (λ h. clashℤ h (≡→≤ (sym e))) ∙ sym (ap (λ (z : ℤ). isLeft (turnOf z)) (ap (λ (z : ℤ). z -ℤ y) (sym e) ∙ +ℤ-invr y))
+    go (more h) = is-false (says-lt y v) (λ k. clashℤ k (<→≤ h)) ∙ sym (ap isLeft (turn-below (under h)))
 
 -- turned round, a side has the peak on its other side
 turned₀ : (a b c d x y : ℤ) → (a -ℤ c) *ℤ (y -ℤ d) -ℤ (b -ℤ d) *ℤ (x -ℤ c) ≡ negℤ ((c -ℤ a) *ℤ (y -ℤ b) -ℤ (d -ℤ b) *ℤ (x -ℤ a))
