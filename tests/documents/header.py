@@ -46,7 +46,7 @@ def place_said(in_file, in_list):
 
 def check_refusals():
     due = chart_refusals()
-    same("docs/CHART.md, numbers", list(due), list(range(len(due))))
+    same("docs/CHART.md, numbers", list(due), sorted(due))
     body = re.search(r"typedef enum \{(.*?)\} mirtalughe_refusal;", HEADER, re.S)[1]
     entries = re.findall(r"/\* (.*?) \*/\s*MIRTALUGHE_(\w+) = (\d+)", body, re.S)
     said = {int(number): (name, " ".join(comment.split())) for comment, name, number in entries}

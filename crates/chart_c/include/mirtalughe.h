@@ -77,7 +77,9 @@ typedef enum {
     /* lent room too small. Place: 0. */
     MIRTALUGHE_ROOM = 8,
     /* a list's length is no multiple of five or, in a pair call, is not ten. Place in a list: 0. */
-    MIRTALUGHE_LIST_LENGTH = 9
+    MIRTALUGHE_LIST_LENGTH = 9,
+    /* an odd count of numbers or a corner count outside 3 to 64. Place in a list: 0. */
+    MIRTALUGHE_OUTLINE = 15
 } mirtalughe_refusal;
 
 /* ---- answers. `number` is one of mirtalughe_refusal, and `place` a byte of the file or the number of a piece. */
@@ -135,6 +137,31 @@ typedef struct {
     uint64_t d;
 } mirtalughe_swept;
 
+/* What `region` is. */
+typedef enum {
+    MIRTALUGHE_NONE = 0, /* the call is refused */
+    MIRTALUGHE_ON = 1, /* some side, both ends included, has the peak */
+    MIRTALUGHE_INSIDE = 2,
+    MIRTALUGHE_OUTSIDE = 3
+} mirtalughe_to_region;
+
+/* Where a peak lies to a region. */
+typedef struct {
+    uint8_t number;
+    size_t place;
+    uint8_t region;
+} mirtalughe_located;
+
+/* How a half-line meets a piece: MIRTALUGHE_NOTHING or MIRTALUGHE_CROSSING. A crossing carries `turn`, as of
+   mirtalughe_orient: 0 where the piece's ends lie on both sides of the line, and where one end is on the line the side of
+   the other. */
+typedef struct {
+    uint8_t number;
+    size_t place;
+    uint8_t meets;
+    int8_t turn;
+} mirtalughe_half_met;
+
 /* ---- calls */
 
 /* Which way the three points turn: 1 counter-clockwise, -1 clockwise, 0 not at all. It is exact for every int16_t. */
@@ -170,6 +197,18 @@ mirtalughe_answer mirtalughe_all_pairs(const int32_t *list, size_t length, uint8
    piece that is the order of their first common points, then of the lesser number, then of the greater. `lent` is at
    least MIRTALUGHE_PAIRS_ROOM(n). Bytes past the last pair keep their values. */
 mirtalughe_swept mirtalughe_sweep(const int32_t *list, size_t length, uint32_t budget, uint8_t *pairs, size_t lent);
+
+/* Where the peak x, y lies to the region of a closed outline of 3 to 64 corners, two numbers a corner: on a side, or else
+   inside by the even-odd rule, whether or not the outline crosses itself. x stops at 32,766. Refusals:
+   MIRTALUGHE_OUTLINE, then MIRTALUGHE_COORDINATE at the first corner out of range, MIRTALUGHE_NO_LENGTH at the first
+   corner equal to its next (the first follows the last), MIRTALUGHE_COORDINATE for the peak. The place is the corner's
+   number, else zero. */
+mirtalughe_located mirtalughe_region(const int32_t *outline, size_t length, int32_t x, int32_t y);
+
+/* How the half-line from x, y through tx, ty meets the piece of five numbers, whose marks do not matter. Refusals:
+   MIRTALUGHE_KIND, MIRTALUGHE_COORDINATE, MIRTALUGHE_NO_LENGTH of the piece, then MIRTALUGHE_COORDINATE and
+   MIRTALUGHE_NO_LENGTH of the two points. The place is zero. */
+mirtalughe_half_met mirtalughe_half_line(int32_t kind, int32_t x1, int32_t y1, int32_t x2, int32_t y2, int32_t x, int32_t y, int32_t tx, int32_t ty);
 
 #ifdef __cplusplus
 }

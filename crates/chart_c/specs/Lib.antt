@@ -3,3 +3,4 @@ pub mod Numbers
 pub mod Meetings
 pub mod Places
 pub mod Sweeps
+pub mod Regions

@@ -17,7 +17,7 @@ pointTurn a b c = turnOf (det (a .x) (a .y) (b .x) (b .y) (c .x) (c .y))
 abbrev pub cornerOf : EndPoint → Corner
 cornerOf e = record { x = e .x; y = e .y }
 
--- "There is a crossing if we lean in the direction of" the end that is not on the line
+-- one end on the line: a crossing where the start lies on the side of the other end
 abbrev pub leansOf : Orientation → Orientation → IHalfLineLineSegmentSoS
 leansOf side start = cond (sameTurn side start) (Crossing side) Nothing
 
