@@ -4,7 +4,7 @@ use std::fmt::Debug;
 
 use crate::answers::{Chart, Pair};
 use crate::original::Original;
-use crate::{file, half_line, naive, order, orient, place, refusals, segment, sweep, writing};
+use crate::{file, half_line, naive, order, orient, place, refusals, region, segment, sweep, writing};
 
 pub struct Case {
   pub chart: Chart,
@@ -38,6 +38,7 @@ pub fn check(chart: &Chart) -> Result<(), String> {
   segment::compare(&case)?;
   place::compare(&case)?;
   half_line::compare(&case)?;
+  region::compare(&case)?;
   order::compare(&case)?;
   naive::compare(&case)?;
   sweep::compare(&case)?;
