@@ -175,6 +175,45 @@ static void answers_of_place(void) {
     }
 }
 
+static void answers_of_region(void) {
+    /* A square with a corner at the height of the peaks asked. */
+    static const int32_t outline[] = {0, 0, 4, 0, 6, 2, 4, 4, 0, 4};
+    static const int32_t far[] = {0, 0, 4, 0, 4, -32768};
+    static const int32_t repeated[] = {0, 0, 4, 0, 4, 4, 4, 4};
+    mirtalughe_located told[] = {
+        mirtalughe_region(outline, LENGTH(outline), 4, 0),    mirtalughe_region(outline, LENGTH(outline), 1, 2),
+        mirtalughe_region(outline, LENGTH(outline), -1, 2),   mirtalughe_region(outline, LENGTH(outline) - 1, 1, 2),
+        mirtalughe_region(outline, 4, 1, 2),                  mirtalughe_region(far, LENGTH(far), 1, 2),
+        mirtalughe_region(repeated, LENGTH(repeated), 1, 2),  mirtalughe_region(outline, LENGTH(outline), 32767, 2),
+        mirtalughe_region(outline, LENGTH(outline), 32766, 2),
+    };
+    static const uint8_t due[][3] = {
+        {0, 0, MIRTALUGHE_ON},         {0, 0, MIRTALUGHE_INSIDE},     {0, 0, MIRTALUGHE_OUTSIDE},
+        {MIRTALUGHE_OUTLINE, 0, 0},    {MIRTALUGHE_OUTLINE, 0, 0},    {MIRTALUGHE_COORDINATE, 2, 0},
+        {MIRTALUGHE_NO_LENGTH, 2, 0},  {MIRTALUGHE_COORDINATE, 0, 0}, {0, 0, MIRTALUGHE_OUTSIDE},
+    };
+    for (size_t i = 0; i < LENGTH(told); i++) {
+        CHECK(told[i].number == due[i][0]);
+        CHECK(told[i].place == due[i][1]);
+        CHECK(told[i].region == due[i][2]);
+    }
+}
+
+static void answers_of_half_line(void) {
+    mirtalughe_half_met met = mirtalughe_half_line(3, 2, -1, 2, 1, 0, 0, 1, 0);
+    CHECK(met.number == MIRTALUGHE_DONE && met.place == 0 && met.meets == MIRTALUGHE_CROSSING && met.turn == 0);
+    met = mirtalughe_half_line(3, 2, 0, 2, 1, 0, 0, 1, 0);
+    CHECK(met.meets == MIRTALUGHE_CROSSING && met.turn == 1);
+    met = mirtalughe_half_line(3, 2, 0, 2, -1, 0, 0, 1, 0);
+    CHECK(met.meets == MIRTALUGHE_CROSSING && met.turn == -1);
+    met = mirtalughe_half_line(3, -2, -1, -2, 1, 0, 0, 1, 0);
+    CHECK(met.number == MIRTALUGHE_DONE && met.meets == MIRTALUGHE_NOTHING && met.turn == 0);
+    CHECK(mirtalughe_half_line(4, 2, -1, 2, 1, 0, 0, 0, 0).number == MIRTALUGHE_KIND);
+    CHECK(mirtalughe_half_line(3, 2, 1, 2, 1, 0, 0, 0, 0).number == MIRTALUGHE_NO_LENGTH);
+    CHECK(mirtalughe_half_line(3, 2, -1, 2, 1, -32768, 0, 0, 0).number == MIRTALUGHE_COORDINATE);
+    CHECK(mirtalughe_half_line(3, 2, -1, 2, 1, 0, 0, 0, 0).number == MIRTALUGHE_NO_LENGTH);
+}
+
 static void answers_of_all_pairs(void) {
     memset(pairs, KEPT, sizeof pairs);
     mirtalughe_answer listed = mirtalughe_all_pairs(gap, LENGTH(gap), pairs, MIRTALUGHE_PAIRS_ROOM(3));
@@ -336,6 +375,7 @@ static void null(void) {
     CHECK(mirtalughe_read(NULL, 0, NULL, 0).number == MIRTALUGHE_ROOM);
     CHECK(mirtalughe_meeting(NULL, 0).number == MIRTALUGHE_LIST_LENGTH);
     CHECK(mirtalughe_place(NULL, 0).number == MIRTALUGHE_LIST_LENGTH);
+    CHECK(mirtalughe_region(NULL, 0, 0, 0).number == MIRTALUGHE_OUTLINE);
     CHECK(mirtalughe_all_pairs(NULL, 0, NULL, 0).number == MIRTALUGHE_DONE);
     CHECK(mirtalughe_all_pairs(crossing, MIRTALUGHE_PIECE_NUMBERS, NULL, 0).number == MIRTALUGHE_DONE);
     CHECK(mirtalughe_sweep(NULL, 0, 0, NULL, 0).ended);
@@ -348,6 +388,8 @@ int main(void) {
     answers_of_write();
     answers_of_meeting();
     answers_of_place();
+    answers_of_region();
+    answers_of_half_line();
     answers_of_all_pairs();
     answers_of_sweep();
     answers_of_check();

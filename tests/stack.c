@@ -33,6 +33,13 @@ static void meeting(void) { wrong |= mirtalughe_meeting(list, MIRTALUGHE_TWO_PIE
 
 static void place(void) { wrong |= mirtalughe_place(list, MIRTALUGHE_TWO_PIECES).meets != MIRTALUGHE_AT; }
 
+static void region(void) {
+    static const int32_t outline[] = {0, 0, 4, 0, 4, 4, 0, 4};
+    wrong |= mirtalughe_region(outline, 8, 1, 1).region != MIRTALUGHE_INSIDE;
+}
+
+static void half_line(void) { wrong |= mirtalughe_half_line(3, 2, -1, 2, 1, 0, 0, 1, 0).meets != MIRTALUGHE_CROSSING; }
+
 static void all_pairs(void) {
     wrong |= mirtalughe_all_pairs(list, MIRTALUGHE_LIST_ROOM, pairs, sizeof pairs).count != MIRTALUGHE_MOST_PAIRS;
 }
@@ -85,6 +92,7 @@ int main(void) {
         {"mirtalughe_meeting", meeting}, {"mirtalughe_place", place},   {"mirtalughe_all_pairs", all_pairs},
         {"mirtalughe_sweep", sweep},     {"mirtalughe_write", write},
         {"mirtalughe_check", check},
+        {"mirtalughe_region", region},   {"mirtalughe_half_line", half_line},
     };
     largest();
     size_t none = taken(nothing), most = 0;

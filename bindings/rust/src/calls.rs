@@ -15,6 +15,18 @@ unsafe extern "C" {
   pub fn mirtalughe_sweep(list: *const i32, length: usize, budget: u32, pairs: *mut u8, lent: usize)
   -> Swept;
   pub fn mirtalughe_check(list: *const i32, length: usize, pairs: *const u8, size: usize) -> Checked;
+  pub fn mirtalughe_region(outline: *const i32, length: usize, x: i32, y: i32) -> Located;
+  pub safe fn mirtalughe_half_line(
+    kind: i32,
+    x1: i32,
+    y1: i32,
+    x2: i32,
+    y2: i32,
+    x: i32,
+    y: i32,
+    tx: i32,
+    ty: i32,
+  ) -> HalfMet;
 }
 
 #[repr(C)]
@@ -86,4 +98,19 @@ pub struct Checked {
   pub says: u8,
   pub first: usize,
   pub second: usize,
+}
+
+#[repr(C)]
+pub struct Located {
+  pub number: u8,
+  pub place: usize,
+  pub region: u8,
+}
+
+#[repr(C)]
+pub struct HalfMet {
+  pub number: u8,
+  pub place: usize,
+  pub meets: u8,
+  pub turn: i8,
 }

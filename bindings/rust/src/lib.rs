@@ -111,6 +111,14 @@ pub enum Place {
   Along(PlacePoint, PlacePoint),
 }
 
+/// Where a peak lies to a region.
+#[derive(Clone, Copy, PartialEq, Eq, Debug)]
+pub enum Region {
+  On,
+  Inside,
+  Outside,
+}
+
 /// What a sweep has found: the pairs listed so far, the lesser number first, in the order in which they were listed.
 #[derive(Clone, Copy, PartialEq, Eq, Debug)]
 pub struct Swept<'a> {
@@ -150,7 +158,11 @@ pub enum Checked {
 
 /// Which way the points p, q, r, each x and y, turn.
 pub fn orient(p: [i16; 2], q: [i16; 2], r: [i16; 2]) -> Orientation {
-  match calls::mirtalughe_orient(p[0], p[1], q[0], q[1], r[0], r[1]) {
+  turn(calls::mirtalughe_orient(p[0], p[1], q[0], q[1], r[0], r[1]))
+}
+
+fn turn(number: i8) -> Orientation {
+  match number {
     1 => Orientation::CounterClockWise,
     -1 => Orientation::ClockWise,
     0 => Orientation::CoLinear,
@@ -258,4 +270,30 @@ fn entry_fault(number: usize) -> EntryFault {
     4 => EntryFault::Repeated,
     other => unreachable!("{other} is the number of no fault"),
   }
+}
+
+/// Where a peak, x and y, lies to the region of an outline, two numbers a corner: on a side, or inside by the even-odd rule.
+pub fn region(outline: &[i32], peak: [i32; 2]) -> Result<Region, Refusal> {
+  // SAFETY: the pointer is good for the length.
+  let located = unsafe { calls::mirtalughe_region(outline.as_ptr(), outline.len(), peak[0], peak[1]) };
+  refusal::check(located.number, located.place, Given::Outline)?;
+  Ok(match located.region {
+    1 => Region::On,
+    2 => Region::Inside,
+    3 => Region::Outside,
+    other => unreachable!("{other} is the number of no place to a region"),
+  })
+}
+
+/// How the half-line from one point through another, each x and y, meets a piece: not, or with the turn that the Rust's
+/// `Crossing` carries, CoLinear where the ends lie on both sides of the line and else the side of the one end off it.
+pub fn half_line(piece: Piece, from: [i32; 2], through: [i32; 2]) -> Result<Option<Orientation>, Refusal> {
+  let [kind, x1, y1, x2, y2] = piece;
+  let met = calls::mirtalughe_half_line(kind, x1, y1, x2, y2, from[0], from[1], through[0], through[1]);
+  refusal::check(met.number, met.place, Given::HalfLine)?;
+  Ok(match met.meets {
+    0 => None,
+    1 => Some(turn(met.turn)),
+    other => unreachable!("{other} is the number of no meeting"),
+  })
 }

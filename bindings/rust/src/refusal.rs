@@ -16,6 +16,7 @@ pub enum Fault {
   ExtraBytes = 7,
   Room = 8,
   ListLength = 9,
+  Outline = 15,
   OddBytes = 16,
 }
 
@@ -30,6 +31,7 @@ impl Fault {
     Fault::ExtraBytes,
     Fault::Room,
     Fault::ListLength,
+    Fault::Outline,
     Fault::OddBytes,
   ];
 
@@ -48,6 +50,7 @@ impl Fault {
       Fault::ExtraBytes => "bytes after the last piece",
       Fault::Room => "lent room too small",
       Fault::ListLength => "a list's length is no multiple of five or, in a pair call, is not ten",
+      Fault::Outline => "an odd count of numbers or a corner count outside 3 to 64",
       Fault::OddBytes => "an odd number of bytes, two a pair",
     }
   }
@@ -58,10 +61,15 @@ impl Fault {
 pub enum Given {
   File,
   List,
+  /// A region's outline and a peak.
+  Outline,
+  /// A half-line and a piece.
+  HalfLine,
 }
 
 /// A call that is refused: why, and where. In a file the place is the byte at which the number starts, the kind's for
-/// equal ends; in a list it is the piece's number for its kind, its coordinates and its ends. Else it is zero.
+/// equal ends; in a list it is the piece's number for its kind, its coordinates and its ends. In an outline it is the corner's number, zero for
+/// the peak. Else it is zero.
 #[derive(Clone, Copy, PartialEq, Eq, Debug)]
 pub struct Refusal {
   pub fault: Fault,
@@ -79,6 +87,9 @@ impl fmt::Display for Refusal {
         write!(f, ", in piece {}", self.place)
       }
       (Given::List, _) => Ok(()),
+      (Given::Outline, Fault::Coordinate) if self.place == 0 => write!(f, ", at corner 0 or the peak"),
+      (Given::Outline, Fault::Coordinate | Fault::NoLength) => write!(f, ", at corner {}", self.place),
+      (Given::Outline | Given::HalfLine, _) => Ok(()),
     }
   }
 }

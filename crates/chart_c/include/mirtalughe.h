@@ -30,9 +30,9 @@ extern "C" {
 
 /* ---- version: of what this header says. MAJOR grows where a program that was right may have to change. */
 #define MIRTALUGHE_VERSION_MAJOR 0
-#define MIRTALUGHE_VERSION_MINOR 6
+#define MIRTALUGHE_VERSION_MINOR 7
 #define MIRTALUGHE_VERSION_PATCH 0
-#define MIRTALUGHE_VERSION "0.6.0"
+#define MIRTALUGHE_VERSION "0.7.0"
 
 /* ---- sizes */
 #define MIRTALUGHE_MOST_PIECES 64 /* of a chart */
@@ -78,6 +78,8 @@ typedef enum {
     MIRTALUGHE_ROOM = 8,
     /* a list's length is no multiple of five or, in a pair call, is not ten. Place in a list: 0. */
     MIRTALUGHE_LIST_LENGTH = 9,
+    /* an odd count of numbers or a corner count outside 3 to 64. Place in a list: 0. */
+    MIRTALUGHE_OUTLINE = 15,
     /* an odd number of bytes, two a pair. Place in a list: 0. */
     MIRTALUGHE_ODD_BYTES = 16
 } mirtalughe_refusal;
@@ -159,6 +161,31 @@ typedef struct {
     size_t first, second;
 } mirtalughe_checked;
 
+/* What `region` is. */
+typedef enum {
+    MIRTALUGHE_NONE = 0, /* the call is refused */
+    MIRTALUGHE_ON = 1, /* some side, both ends included, has the peak */
+    MIRTALUGHE_INSIDE = 2,
+    MIRTALUGHE_OUTSIDE = 3
+} mirtalughe_to_region;
+
+/* Where a peak lies to a region. */
+typedef struct {
+    uint8_t number;
+    size_t place;
+    uint8_t region;
+} mirtalughe_located;
+
+/* How a half-line meets a piece: MIRTALUGHE_NOTHING or MIRTALUGHE_CROSSING. A crossing carries `turn`, as of
+   mirtalughe_orient: 0 where the piece's ends lie on both sides of the line, and where one end is on the line the side of
+   the other. */
+typedef struct {
+    uint8_t number;
+    size_t place;
+    uint8_t meets;
+    int8_t turn;
+} mirtalughe_half_met;
+
 /* ---- calls */
 
 /* Which way the three points turn: 1 counter-clockwise, -1 clockwise, 0 not at all. It is exact for every int16_t. */
@@ -198,6 +225,18 @@ mirtalughe_swept mirtalughe_sweep(const int32_t *list, size_t length, uint32_t b
 /* Holds a list of pairs, `size` bytes, two a pair in any order, to a list's pieces: whether it names each pair that meets
    once, in either number order, and if not, where it is wrong. A list of pairs may be of any length. Nothing is lent. */
 mirtalughe_checked mirtalughe_check(const int32_t *list, size_t length, const uint8_t *pairs, size_t size);
+
+/* Where the peak x, y lies to the region of a closed outline of 3 to 64 corners, two numbers a corner: on a side, or else
+   inside by the even-odd rule, whether or not the outline crosses itself. x stops at 32,766. Refusals:
+   MIRTALUGHE_OUTLINE, then MIRTALUGHE_COORDINATE at the first corner out of range, MIRTALUGHE_NO_LENGTH at the first
+   corner equal to its next (the first follows the last), MIRTALUGHE_COORDINATE for the peak. The place is the corner's
+   number, else zero. */
+mirtalughe_located mirtalughe_region(const int32_t *outline, size_t length, int32_t x, int32_t y);
+
+/* How the half-line from x, y through tx, ty meets the piece of five numbers, whose marks do not matter. Refusals:
+   MIRTALUGHE_KIND, MIRTALUGHE_COORDINATE, MIRTALUGHE_NO_LENGTH of the piece, then MIRTALUGHE_COORDINATE and
+   MIRTALUGHE_NO_LENGTH of the two points. The place is zero. */
+mirtalughe_half_met mirtalughe_half_line(int32_t kind, int32_t x1, int32_t y1, int32_t x2, int32_t y2, int32_t x, int32_t y, int32_t tx, int32_t ty);
 
 #ifdef __cplusplus
 }

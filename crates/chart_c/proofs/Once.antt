@@ -11,6 +11,8 @@ use Rattle.chart_c.proofs.mirtalughe_place.Reads as place
 use Rattle.chart_c.proofs.mirtalughe_all_pairs.Reads as all-pairs
 use Rattle.chart_c.proofs.mirtalughe_sweep.Reads as sweep
 use Rattle.chart_c.proofs.mirtalughe_check.Reads as check
+use Rattle.chart_c.proofs.mirtalughe_region.Reads as region
+use Rattle.chart_c.proofs.mirtalughe_half_line.Reads as half-line
 
 pub orient-once : OneResult orient.Post
 orient-once κ a x y s t h k = h ∙ sym k
@@ -38,3 +40,9 @@ sweep-once κ a x y s t h k = (h .0 ∙ sym (k .0), h .1 ∙ sym (k .1))
 
 pub check-once : OneResult check.Post
 check-once κ a x y s t h k = h ∙ sym k
+
+pub region-once : OneResult region.Post
+region-once κ a x y s t h k = h ∙ sym k
+
+pub half-line-once : OneResult half-line.Post
+half-line-once κ a x y s t h k = h ∙ sym k

@@ -4,3 +4,4 @@ pub mod Meetings
 pub mod Places
 pub mod Sweeps
 pub mod Checks
+pub mod Regions

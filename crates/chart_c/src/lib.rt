@@ -16,15 +16,20 @@ ghost use Rattle.chart_c.specs.Checks.{checkedAs};
 ghost use Rattle.chart_c.specs.Numbers.{turnNumber, orderNumber, pointOf};
 ghost use Rattle.chart_c.specs.Meetings.{noEnd, endFields, metAs, fieldsOf};
 ghost use Rattle.chart_c.specs.Places.{placedAs, placedOf};
+ghost use Rattle.half_line.specs.Call.{halfLineAnswerOf};
+ghost use Rattle.region.specs.Region.{regionAnswerOf};
+ghost use Rattle.chart_c.specs.Regions.{regionNumber, locatedOf, halfMetAs, halfMetOf};
 use bentley_ottmann::Last;
 use bentley_ottmann::Swept;
 use charts::Answer;
 use fractions::Order;
 use fractions::Point;
+use half_line::IHalfLineLineSegmentSoS;
 use line_segment::EndPoint;
 use line_segment::Meeting;
 use orientation::Orientation;
 use place::Place;
+use region::Region;
 use supplied::Checked;
 
 // An end of a stretch.
@@ -83,6 +88,23 @@ pub struct CheckedFields {
     pub says: u8,
     pub first: usize,
     pub second: usize,
+}
+
+// Where a peak lies to a region: `region` is 0 for none, 1 for on, 2 for inside and 3 for outside.
+#[repr(C)]
+pub struct Located {
+    pub number: u8,
+    pub place: usize,
+    pub region: u8,
+}
+
+// How a half-line meets a piece: `meets` is 0 for nothing and 1 for a crossing, which carries `turn`.
+#[repr(C)]
+pub struct HalfMet {
+    pub number: u8,
+    pub place: usize,
+    pub meets: u8,
+    pub turn: i8,
 }
 
 // Which way the three points turn, as its number.
@@ -334,4 +356,78 @@ pub extern "C" fn mirtalughe_check(list: &[i32], pairs: &[u8]) -> CheckedFields
     ensures { λ r. ⌜ r ≡ checkedAs (checkedOf (now (list .entry)) (now (pairs .entry))) ⌝ }
 {
     checked_fields(supplied::check(list, pairs))
+}
+
+fn turn_number(o: Orientation) -> i8
+    ensures { λ r. ⌜ r ≡ turnNumber o ⌝ }
+{
+    match o {
+        Orientation::CounterClockWise => 1,
+        Orientation::ClockWise => -1,
+        Orientation::CoLinear => 0,
+    }
+}
+
+fn region_number(r: Region) -> u8
+    ensures { λ n. ⌜ n ≡ regionNumber r ⌝ }
+{
+    match r {
+        Region::None => 0,
+        Region::On => 1,
+        Region::Inside => 2,
+        Region::Outside => 3,
+    }
+}
+
+// Where the peak x, y lies to the region of an outline, two numbers a corner.
+#[no_mangle]
+pub extern "C" fn mirtalughe_region(outline: &[i32], x: i32, y: i32) -> Located
+    ensures { λ r. ⌜ r ≡ locatedOf (regionAnswerOf (now (outline .entry)) x y) ⌝ }
+{
+    let answer = region::locate(outline, x, y);
+    let region = answer.region;
+    Located {
+        number: answer.number,
+        place: answer.place,
+        region: region_number(region),
+    }
+}
+
+fn half_met(number: u8, meeting: IHalfLineLineSegmentSoS) -> HalfMet
+    ensures { λ r. ⌜ r ≡ halfMetAs number meeting ⌝ }
+{
+    match meeting {
+        IHalfLineLineSegmentSoS::Nothing => HalfMet {
+            number,
+            place: 0,
+            meets: 0,
+            turn: 0,
+        },
+        IHalfLineLineSegmentSoS::Crossing(o) => HalfMet {
+            number,
+            place: 0,
+            meets: 1,
+            turn: turn_number(o),
+        },
+    }
+}
+
+// How the half-line from x, y through tx, ty meets the piece of five numbers.
+#[no_mangle]
+pub extern "C" fn mirtalughe_half_line(
+    kind: i32,
+    x1: i32,
+    y1: i32,
+    x2: i32,
+    y2: i32,
+    x: i32,
+    y: i32,
+    tx: i32,
+    ty: i32,
+) -> HalfMet
+    ensures { λ r. ⌜ r ≡ halfMetOf (halfLineAnswerOf kind x1 y1 x2 y2 x y tx ty) ⌝ }
+{
+    let answer = half_line::asked(kind, x1, y1, x2, y2, x, y, tx, ty);
+    let meeting = answer.meeting;
+    half_met(answer.number, meeting)
 }

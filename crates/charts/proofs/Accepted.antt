@@ -33,7 +33,7 @@ accepted-sound list n i e l = go (refuses-exactly list (Accepted n) .0 e) l
     go (done n q h s) = s i
 
 -- two ends apart make a piece of some length, whichever comes first
-apart : (a b : EndPoint) → ¬ ((a .x ≡ b .x) × (a .y ≡ b .y)) → HasLength (joinOf a b)
+pub apart : (a b : EndPoint) → ¬ ((a .x ≡ b .x) × (a .y ≡ b .y)) → HasLength (joinOf a b)
 unfolding joinOf joinBy
 apart a b d = go (tri (a .x) (b .x)) (tri (a .y) (b .y))
   where
@@ -52,7 +52,7 @@ apart a b d = go (tri (a .x) (b .x)) (tri (a .y) (b .y))
         back (end-order-is a b ∙ sym (greater-second (≡→≤ e) (≡→≤ (sym e)) h)) (end-order-is b a ∙ sym (less-second (≡→≤ (sym e)) (≡→≤ e) h))
     go (same e) (same f) = absurd (d (e, f))
 
-in-range : (v : ℤ) → ¬ Off v → coordinateOf v ≡ v
+pub in-range : (v : ℤ) → ¬ Off v → coordinateOf v ≡ v
 in-range v d = coordinate-kept v (is-false (says-outside (negℤ range) range v) d)
 
 -- a piece without fault, of five numbers

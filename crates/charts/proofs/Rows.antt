@@ -25,14 +25,14 @@ pub is-false : {t : Bool} {P : Type 0} → Says t P → ¬ P → t ≡ false
 is-false {t = true} s n = absurd (n (s .yes refl))
 is-false {t = false} s n = refl
 
-says-lt : (a b : ℤ) → Says (ltZ a b) (a <ℤ b)
+pub says-lt : (a b : ℤ) → Says (ltZ a b) (a <ℤ b)
 says-lt a b = record { yes = λ e. ltZ-yes (holds e); no = λ e h. T-not (ltZ a b) (fails e) (h .lt) }
 
-says-or : {s t : Bool} {P Q : Type 0} → Says s P → Says t Q → Says (s || t) (P ⊎ Q)
+pub says-or : {s t : Bool} {P Q : Type 0} → Says s P → Says t Q → Says (s || t) (P ⊎ Q)
 says-or {s = true} s t = record { yes = λ _. inl (s .yes refl); no = λ e. absurd (subst T e tt) }
 says-or {s = false} s t = record { yes = λ e. inr (t .yes e); no = λ e. ⊎-elim (s .no refl) (t .no e) }
 
-says-and : {s t : Bool} {P Q : Type 0} → Says s P → Says t Q → Says (s && t) (P × Q)
+pub says-and : {s t : Bool} {P Q : Type 0} → Says s P → Says t Q → Says (s && t) (P × Q)
 says-and {s = true} s t = record { yes = λ e. (s .yes refl, t .yes e); no = λ e h. t .no e (h .1) }
 says-and {s = false} s t = record { yes = λ e. absurd (subst T (sym e) tt); no = λ _ h. s .no refl (h .0) }
 
@@ -47,7 +47,7 @@ pub says-outside : (low high v : ℤ) → Says (outside low high v) (Outside low
 unfolding outside
 says-outside low high v = says-or (says-lt v low) (says-lt high v)
 
-says-off : (x y : ℤ) → Says (offRange x y) (Off x ⊎ Off y)
+pub says-off : (x y : ℤ) → Says (offRange x y) (Off x ⊎ Off y)
 unfolding offRange
 says-off x y = says-or (says-outside (negℤ range) range x) (says-outside (negℤ range) range y)
 

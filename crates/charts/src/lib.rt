@@ -47,7 +47,8 @@ fn is_outside(low: i32, high: i32, v: i32) -> bool
     v < low || high < v
 }
 
-fn is_off_range(x: i32, y: i32) -> bool
+// Whether an end has a coordinate out of range.
+pub fn is_off_range(x: i32, y: i32) -> bool
     ensures { λ r. ⌜ r ≡ offRange x y ⌝ }
 {
     is_outside(-RANGE, RANGE, x) || is_outside(-RANGE, RANGE, y)
@@ -59,7 +60,7 @@ fn is_same(a: i32, b: i32) -> bool
     a == b
 }
 
-fn has_same_ends(x1: i32, y1: i32, x2: i32, y2: i32) -> bool
+pub fn has_same_ends(x1: i32, y1: i32, x2: i32, y2: i32) -> bool
     ensures { λ r. ⌜ r ≡ sameEnds x1 y1 x2 y2 ⌝ }
 {
     is_same(x1, x2) && is_same(y1, y2)
@@ -188,15 +189,21 @@ fn kind_at(list: &[i32], i: usize) -> u8
     v as u8
 }
 
-fn coordinate_at(list: &[i32], i: usize, k: usize) -> i16
-    requires { ⌜ k < 5 ⌝ }
-    ensures { λ r. ⌜ r ≡ coordinateOf (numberAt (now (list .entry)) i k) ⌝ }
+// A number as a coordinate, 0 where it is out of range.
+pub fn coordinate(v: i32) -> i16
+    ensures { λ r. ⌜ r ≡ coordinateOf v ⌝ }
 {
-    let v = number_at(list, i, k);
     if is_outside(-RANGE, RANGE, v) {
         return 0;
     }
     v as i16
+}
+
+fn coordinate_at(list: &[i32], i: usize, k: usize) -> i16
+    requires { ⌜ k < 5 ⌝ }
+    ensures { λ r. ⌜ r ≡ coordinateOf (numberAt (now (list .entry)) i k) ⌝ }
+{
+    coordinate(number_at(list, i, k))
 }
 
 // Piece i of a list. A number that is missing or out of range counts as 0; an accepted list has none.

@@ -5,7 +5,7 @@ use std::fmt::Debug;
 use crate::answers::{Chart, Pair};
 use crate::original::Original;
 use crate::{
-  file, half_line, naive, order, orient, place, refusals, segment, supplied, sweep, writing,
+  file, half_line, naive, order, orient, place, refusals, region, segment, supplied, sweep, writing,
 };
 
 pub struct Case {
@@ -40,6 +40,7 @@ pub fn check(chart: &Chart) -> Result<(), String> {
   segment::compare(&case)?;
   place::compare(&case)?;
   half_line::compare(&case)?;
+  region::compare(&case)?;
   order::compare(&case)?;
   naive::compare(&case)?;
   supplied::compare(&case)?;

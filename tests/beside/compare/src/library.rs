@@ -2,7 +2,7 @@
 
 use std::cmp::Ordering;
 
-use crate::answers::{Answer, End, Meeting, Point, Refusal, Side, Swept};
+use crate::answers::{Answer, End, Meeting, Piece, Point, Refusal, Side, Swept};
 
 #[link(name = "chart_c", kind = "static")]
 unsafe extern "C" {
@@ -22,6 +22,33 @@ unsafe extern "C" {
     lent: usize,
   ) -> SweptFields;
   fn mirtalughe_check(list: *const i32, length: usize, pairs: *const u8, size: usize) -> Checked;
+  fn mirtalughe_region(outline: *const i32, length: usize, x: i32, y: i32) -> Located;
+  safe fn mirtalughe_half_line(
+    kind: i32,
+    x1: i32,
+    y1: i32,
+    x2: i32,
+    y2: i32,
+    x: i32,
+    y: i32,
+    tx: i32,
+    ty: i32,
+  ) -> HalfMet;
+}
+
+#[repr(C)]
+struct Located {
+  number: u8,
+  place: usize,
+  region: u8,
+}
+
+#[repr(C)]
+struct HalfMet {
+  number: u8,
+  place: usize,
+  meets: u8,
+  turn: i8,
 }
 
 #[repr(C)]
@@ -81,11 +108,39 @@ pub enum Said {
 
 pub fn orient(p: [i32; 2], q: [i32; 2], r: [i32; 2]) -> Side {
   let [x1, y1, x2, y2, x3, y3] = [p[0], p[1], q[0], q[1], r[0], r[1]].map(|v| v as i16);
-  match mirtalughe_orient(x1, y1, x2, y2, x3, y3) {
+  side(mirtalughe_orient(x1, y1, x2, y2, x3, y3))
+}
+
+fn side(number: i8) -> Side {
+  match number {
     1 => Side::CounterClockWise,
     -1 => Side::ClockWise,
     0 => Side::CoLinear,
     other => panic!("{other} is the number of no turn"),
+  }
+}
+
+/// How the half-line from one point through another meets a piece, or why it is refused.
+pub fn half_line(piece: &Piece, from: [i32; 2], through: [i32; 2]) -> Result<Option<Side>, u8> {
+  let [kind, x1, y1, x2, y2] = *piece;
+  let met = mirtalughe_half_line(
+    kind, x1, y1, x2, y2, from[0], from[1], through[0], through[1],
+  );
+  match (met.number, met.place, met.meets, met.turn) {
+    (0, 0, 0, 0) => Ok(None),
+    (0, 0, 1, turn) => Ok(Some(side(turn))),
+    (number @ 1.., 0, 0, 0) => Err(number),
+    other => panic!("{other:?} is no answer"),
+  }
+}
+
+/// 1 on, 2 inside, 3 outside, or why the outline or the peak is refused.
+pub fn region(outline: &[i32], x: i32, y: i32) -> Result<u8, Refusal> {
+  let told = unsafe { mirtalughe_region(outline.as_ptr(), outline.len(), x, y) };
+  match (told.number, told.place, told.region) {
+    (0, 0, region @ 1..=3) => Ok(region),
+    (number @ 1.., place, 0) => Err((number, place)),
+    other => panic!("{other:?} is no answer"),
   }
 }
 

@@ -27,6 +27,7 @@ mod original;
 mod place;
 mod record;
 mod refusals;
+mod region;
 mod scope;
 mod segment;
 mod shrink;

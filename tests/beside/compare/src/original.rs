@@ -93,6 +93,15 @@ pub fn orient_exact(p: [i32; 2], q: [i32; 2], r: [i32; 2]) -> Side {
   side(Corner::orient(&p, &q, &r))
 }
 
+/// The half-line from one point through another, against a piece.
+pub fn half_line_through(from: [i32; 2], through: [i32; 2], piece: &Piece) -> Option<Side> {
+  let [from, through] = [from, through].map(|c| Corner::new(c.map(i64::from)));
+  let edge = &edges(&vec![*piece], i64::from)[0];
+  let ray = HalfLineSoS::new_through(&from, &through);
+  let IHalfLineLineSegmentSoS::Crossing(turn) = (&ray).intersect(edge.segment.as_ref())?;
+  Some(side(turn))
+}
+
 /// The order of two points whose coordinates are fractions.
 pub fn order(p: &Point, q: &Point) -> Ordering {
   corner_of(p).cmp(&corner_of(q))

@@ -1,0 +1,6 @@
+-- The point to the right of a peak: `Right`. What the loops over the sides know: `Sides`.
+pub mod Right
+pub mod Sides
+pub mod EvenOdd
+pub mod OnSides
+pub mod Once

@@ -1,0 +1,57 @@
+-- What is promised of a region's answer. Each statement is a type, inhabited in proofs/.
+use mathlib.Core.Path.{_≡_}
+use mathlib.Core.Bool.{Bool, cond, not, _&&_, _||_}
+use mathlib.Core.Logic.{_↔_}
+use mathlib.Core.List.{List}
+use Prim.Native.Nat.{ℕ, _<_}
+use lib.Dec.{ltb}
+use lib.IntN.{ℤ}
+use lib.Signed.{ltZ}
+use Rattle.orientation.specs.Turn.{isLeft}
+use Rattle.fractions.specs.Point.{wholeOf}
+use Rattle.line_segment.specs.declared.LineSegment.{LineSegment}
+use Rattle.line_segment.specs.Geometry.{LiesOn}
+use Rattle.half_line.specs.declared.Corner.{Corner}
+use Rattle.half_line.specs.HalfLine.{cornerOf, pointTurn, halfLineOf}
+use Rattle.charts.specs.declared.Verdict.{Verdict}
+use Rattle.charts.specs.declared.Verdict.the-variants.{Accepted}
+use Rattle.outline.specs.Counting.{first, count}
+use Rattle.outline.specs.Outline.{sideOf, verdictOf}
+use Rattle.region.specs.declared.Region.{Region}
+use Rattle.region.specs.Region.{counted, rightOf, onSide, parity, regionOf, regionAnswerOf}
+
+-- ---- on a side
+-- some side of the n has the point x, y
+abbrev pub OnSome : List ℤ → ℕ → ℤ → ℤ → Type 0
+OnSome outline n x y = (i : ℕ) × (i < n) × LiesOn (sideOf outline n i) (wholeOf x y)
+
+-- of an accepted outline: On exactly when the peak lies on a side
+abbrev pub OnExactly : Type 0
+OnExactly =
+    (outline : List ℤ) (x y : ℤ) (n : ℕ) → verdictOf outline x y ≡ Accepted n
+    → (regionAnswerOf outline x y .region ≡ Region.On) ↔ OnSome outline n x y
+
+-- ---- the even-odd rule, over geometry alone
+-- an end is above the peak's height
+abbrev pub above : Corner → Corner → Bool
+above p e = ltZ (p .y) (e .y)
+
+-- half-open: from an end at the peak's height or below it up to an end above it, and the peak to the left of the way
+abbrev pub rises : Corner → Corner → Corner → Bool
+rises p low high = not (above p low) && (above p high && isLeft (pointTurn low high p))
+
+-- a side crosses the half-line to the right of the peak, whichever end is the higher
+unfoldable pub crossesRight : Corner → LineSegment → Bool
+crossesRight p s = rises p (cornerOf (s .min)) (cornerOf (s .max)) || rises p (cornerOf (s .max)) (cornerOf (s .min))
+
+-- what the Rust's half-line counts is what the half-open rule counts, side by side
+abbrev pub CountsHalfOpen : Type 0
+CountsHalfOpen = (p : Corner) (s : LineSegment) → counted (halfLineOf p (rightOf p) s) ≡ crossesRight p s
+
+-- so the answer is that of the even-odd rule, for any outline, one that crosses itself too
+unfoldable pub evenOdd : List ℤ → ℕ → Corner → Region
+evenOdd outline n p =
+    cond (ltb (first (onSide outline n p) n) n) Region.On (parity (count (λ i. crossesRight p (sideOf outline n i)) n))
+
+abbrev pub EvenOdd : Type 0
+EvenOdd = (outline : List ℤ) (n : ℕ) (p : Corner) → regionOf outline n p ≡ evenOdd outline n p
