@@ -4,14 +4,13 @@ use mathlib.Core.Logic.{_⊎_, _≢_}
 use mathlib.Core.Bool.{true, false, _||_, not}
 use mathlib.Core.List.{List·Memᴰ as In}
 use Prim.Native.Nat.{ℕ, _<_}
-use native.Mathlib.Omega.{arith}
 use Rattle.sweep.specs.Lists.{upto, Pairwise}
 use Rattle.sweep.specs.Chart.{Chart}
 use Rattle.sweep.specs.State.{State}
 use Rattle.sweep.specs.Step.{starts, finishes, turns, stay, enter}
 use Rattle.sweep.proofs.Tests.{and-both, or-one, neither, not-true}
-use Rattle.sweep.proofs.Lists.{keep-out, pairwise-map, pairwise-keep}
-use Rattle.sweep.proofs.Pairs.{upto-out, upto-up}
+use Rattle.sweep.proofs.Lists.{keep-out, pairwise-keep}
+use Rattle.sweep.proofs.Pairs.{upto-out, upto-once}
 
 module _ (C : Chart) (s : State C) (p : C .Point) where
   open Chart C using (n)
@@ -36,4 +35,4 @@ module _ (C : Chart) (s : State C) (p : C .Point) where
 
   pub enter-once : Pairwise (λ i j. i ≢ j) (enter C s p)
   unfolding enter
-  enter-once = pairwise-keep (λ i j. i ≢ j) _ (upto n) (pairwise-map _<_ (λ i j. i ≢ j) (upto n) (λ x y a b h. omega arith) (upto-up n))
+  enter-once = pairwise-keep (λ i j. i ≢ j) _ (upto n) (upto-once n)

@@ -23,14 +23,14 @@ use Rattle.sweep.specs.Demand.{Pieces, AlwaysPromises}
 use Rattle.sweep.proofs.Tests.{clash, and-both, or-one, not-true, ltb-yes, ltb-no}
 use Rattle.sweep.proofs.Lists.{keep-out, keep-fewer, any-out, pairwise-append, pairwise-keep}
 use Rattle.sweep.proofs.Sorting.{sort-out, sort-once}
-use Rattle.sweep.proofs.Pairs.{upto-out, upto-up, pairs-out, lesser-two, lesser-up, adjacent-out}
+use Rattle.sweep.proofs.Pairs.{upto-out, upto-up, pairs-out}
 use Rattle.sweep.proofs.Active.{stay-out, enter-out, stay-once, enter-once}
-use Rattle.sweep.proofs.Occurring.{occurring-length, ends-out, end-occurs, at-occurs, min-occurs}
+use Rattle.sweep.proofs.Occurring.{adjacent-two, occurring-length, ends-out, end-occurs, at-occurs, min-occurs}
 use Rattle.sweep.proofs.Rank.{keep-more}
 use Rattle.sweep.proofs.Ranked.{Keyed, keys, less-true, less-yes, same-true, same-false}
 use Rattle.sweep.proofs.Least.{least-some}
 use Rattle.sweep.proofs.Between.{bound, bound-none, bound-some}
-use Rattle.sweep.proofs.Runs.{runs-on, lists-on, steps-visited, last-visited}
+use Rattle.sweep.proofs.Runs.{runs-on, lists-on, steps-visited, tells}
 use Rattle.sweep.proofs.Fair.{Fair, Begun, each-fair, report-fair, reports-wait, examine-fair}
 
 module _ (C : Chart) (O : PointsOrdered C) where
@@ -130,15 +130,7 @@ module _ (C : Chart) (O : PointsOrdered C) where
       ranged-distinct = sort-once (before p) (stay C s p ++ enter C s p) (pairwise-append (λ i j. i ≢ j) (stay C s p) (enter C s p) (stay-once C s p (S .distinct)) (enter-once C s p) apart)
 
       adjacent-begun : (l : List ℕ) → ((i : ℕ) → In i l → (i < n) × (key (min i) ≤ key p)) → Pairwise (λ i j. i ≢ j) l → (q : Pair) → In q (adjacent l) → Begun C O p q
-      adjacent-begun l f d q m =
-          let r = adjacent-out l m d in
-          let a = f (r .0) (r .2) in
-          let b = f (r .1) (r .3) in
-          rw (r .5)
-          (⊎-elim
-          (λ (e : lesser-first (r .0) (r .1) ≡ (r .0, r .1)). rw e ((rw e at (lesser-up (r .0) (r .1) (r .4)), b .0), a .1, b .1))
-          (λ (e : lesser-first (r .0) (r .1) ≡ (r .1, r .0)). rw e ((rw e at (lesser-up (r .0) (r .1) (r .4)), a .0), b .1, a .1))
-          (lesser-two (r .0) (r .1)))
+      adjacent-begun l f d q m = let t = adjacent-two C (λ i. key (min i) ≤ key p) l f d q m in (t .0, t .1 .0, t .1 .1)
 
       reported-fair : Fair C O (suc (key p)) (reported C s p)
       unfolding reported drop pieces
@@ -159,7 +151,7 @@ module _ (C : Chart) (O : PointsOrdered C) where
           }
         where
           waiting-old : (q : Pair) → In q ((each (report C) (pairs (keep (takes-part C s p) (upto n))) (s .marks)) .waiting) → In q (s .marks .waiting)
-          waiting-old q m = rw (reports-wait C O (pairs (keep (takes-part C s p) (upto n))) (s .marks)) at m
+          waiting-old q m = rw (reports-wait C (pairs (keep (takes-part C s p) (upto n))) (s .marks)) at m
 
       step-sound : Sound (step C s p)
       unfolding step bound examined
@@ -256,7 +248,7 @@ module _ (C : Chart) (O : PointsOrdered C) where
         lists-only = λ m. (forward m) .sound .fair .only;
         lists-once = λ m. (forward m) .sound .fair .once;
         lists-on = lists-on C;
-        last-visited = last-visited C;
+        last-visited = (tells C) .last-visited;
         steps-bounded = λ m. omega (arith, steps-visited C m, few-visited m);
         ends-soon = λ m h. ended m h (next C (run C m)) refl;
         runs-on = runs-on C;

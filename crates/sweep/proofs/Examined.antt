@@ -19,7 +19,7 @@ use Rattle.sweep.proofs.Sorting.{place-in, place-out}
 use Rattle.sweep.proofs.Occurring.{at-occurs}
 use Rattle.sweep.proofs.Ranked.{Ranked, less-true, less-false, Keyed}
 use Rattle.sweep.proofs.First.{kind-cases, two-meet, first-crosses, first-min}
-use Rattle.sweep.proofs.Between.{Known, Good}
+use Rattle.sweep.proofs.Marked.{Known, Good}
 
 module _ (C : Chart) (F : Ranked C) (p : C .Point) (op : Occurs C p) where
   open Chart C using (less, min)
@@ -65,11 +65,11 @@ module _ (C : Chart) (F : Ranked C) (p : C .Point) (op : Occurs C p) where
       let oc = at-occurs C q v k in
       ⊎-elim
       (λ (l : less p (at C q) ≡ true). inr (examine-else q m a ∙ rw (k, l), k, less-true C (F .keyed) p (at C q) op oc l))
-      (λ (l : less p (at C q) ≡ false). absurd (free (G .full q v me (omega (arith, less-false C (F .keyed) p (at C q) op oc l)))))
+      (λ (l : less p (at C q) ≡ false). absurd (free (G .pairs-met .full q v me (omega (arith, less-false C (F .keyed) p (at C q) op oc l)))))
       (ask (less p (at C q))))
       (λ (k : kind C q ≡ overlaps).
       absurd
-      (free (G .full q v me
+      (free (G .pairs-met .full q v me
       (⊎-elim (λ (g : first C q ≡ min (q .0)). omega (arith, ap key g)) (λ (g : first C q ≡ min (q .1)). omega (arith, ap key g)) (first-min C F q v k)))))
       r)
       (kind-cases (kind C q)))
@@ -77,7 +77,7 @@ module _ (C : Chart) (F : Ranked C) (p : C .Point) (op : Occurs C p) where
 
   wait-good : (q : Pair) (m : Marks) → Good C F (suc (key p)) m → Pieces C q → kind C q ≡ crosses → key p < key (at C q) → Good C F (suc (key p)) (wait C q m)
   unfolding wait
-  wait-good q m G v k l = record { met = G .met; full = G .full; ahead = λ r h. ahead r (place-out _ q (m .waiting) h) }
+  wait-good q m G v k l = record { pairs-met = G .pairs-met; ahead = λ r h. ahead r (place-out _ q (m .waiting) h) }
     where
       ahead : (r : Pair) → In r (q ∷ m .waiting) → Pieces C r × (kind C r ≡ crosses) × (suc (key p) ≤ key (at C r))
       ahead r (here e) = rw e (v, k, l)

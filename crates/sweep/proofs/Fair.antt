@@ -21,6 +21,21 @@ use Rattle.sweep.proofs.Occurring.{at-occurs}
 use Rattle.sweep.proofs.Ranked.{Keyed, keys, less-true}
 use Rattle.sweep.proofs.First.{two-meet}
 
+module _ (C : Chart) where
+  -- listing leaves the waiting pairs alone
+  report-wait : (q : Pair) (m : Marks) → (report C q m) .waiting ≡ m .waiting
+  unfolding report list
+  report-wait q m = go (not (among q (m .listed)) && meets (kind C q))
+    where
+      go : (b : Bool) → (cond b (list q m) m) .waiting ≡ m .waiting
+      go true = refl
+      go false = refl
+
+  pub reports-wait : (l : List Pair) (m : Marks) → (each (report C) l m) .waiting ≡ m .waiting
+  unfolding each
+  reports-wait [] m = refl
+  reports-wait (q ∷ l) m = reports-wait l (report C q m) ∙ report-wait q m
+
 module _ (C : Chart) (O : PointsOrdered C) where
   open Chart C using (Point, less, n, min, max, before)
 
@@ -83,20 +98,6 @@ module _ (C : Chart) (O : PointsOrdered C) where
 
       passed : (not (among q (m .listed)) && meets (kind C q)) ≡ false → report C q m ≡ m
       passed e = rw e
-
-  -- listing leaves the waiting pairs alone
-  report-wait : (q : Pair) (m : Marks) → (report C q m) .waiting ≡ m .waiting
-  unfolding report list
-  report-wait q m = go (not (among q (m .listed)) && meets (kind C q))
-    where
-      go : (b : Bool) → (cond b (list q m) m) .waiting ≡ m .waiting
-      go true = refl
-      go false = refl
-
-  pub reports-wait : (l : List Pair) (m : Marks) → (each (report C) l m) .waiting ≡ m .waiting
-  unfolding each
-  reports-wait [] m = refl
-  reports-wait (q ∷ l) m = reports-wait l (report C q m) ∙ report-wait q m
 
   -- both pieces have begun by p
   abbrev pub Begun : Point → Pair → Type 0

@@ -12,7 +12,7 @@ use Rattle.sweep.specs.Geometry.{Occurs}
 use Rattle.sweep.specs.Demand.{Pieces}
 use Rattle.sweep.proofs.Tests.{ask, clash, and-both}
 use Rattle.sweep.proofs.Lists.{keep-in, keep-out}
-use Rattle.sweep.proofs.Pairs.{lesser-two, lesser-up}
+use Rattle.sweep.proofs.Pairs.{lesser-two}
 use Rattle.sweep.proofs.Occurring.{all-in, all-out, min-occurs, at-occurs}
 use Rattle.sweep.proofs.Ranked.{Ranked, less-true, less-false, same-yes, same-true, Keyed}
 
@@ -47,12 +47,6 @@ module _ (C : Chart) where
     open Keyed (F .keyed) using (key)
 
     -- a pair of pieces, whichever comes first
-    pub pair-pieces : (a b : ℕ) → a < n → b < n → a ≢ b → Pieces C (lesser-first a b)
-    pair-pieces a b ha hb ne = (
-      lesser-up a b ne,
-      ⊎-elim (λ (e : lesser-first a b ≡ (a, b)). rw e hb) (λ (e : lesser-first a b ≡ (b, a)). rw e ha) (lesser-two a b),
-    )
-
     pub pair-kind : (a b : ℕ) → a < n → b < n → a ≢ b → kind C (lesser-first a b) ≡ test a b
     pair-kind a b ha hb ne =
         ⊎-elim

@@ -2,7 +2,7 @@
 use mathlib.Core.Path.{_≡_, refl}
 use mathlib.Core.Logic.{⊎-elim}
 use mathlib.Core.Bool.{Bool, true, false, _&&_}
-use mathlib.Core.List.{List, [], _∷_, _++_}
+use mathlib.Core.List.{List, [], _∷_, _++_, Memᴰ·append-left, Memᴰ·append-right}
 use mathlib.Core.List.{List·Memᴰ as In, List·Memᴰ·head as here, List·Memᴰ·tail as there, List·Memᴰ·append-cases}
 use Prim.Native.Nat.{ℕ, zero, suc, _≤_}
 use native.Mathlib.Omega.{arith}
@@ -111,6 +111,20 @@ module _ {A : Type 0} where
       λ y h. ⊎-elim (λ (k : In y l). a .0 y k) (λ (k : In y m). f x y (here refl) k) (List·Memᴰ·append-cases l h),
       pairwise-append l m (a .1) b (λ y z h k. f y z (there h) k),
     )
+
+    -- of two joined lists: each alone, and every member of the first with every member of the second
+    pub pairwise-left : (l m : List A) → Pairwise R (l ++ m) → Pairwise R l
+    pairwise-left [] m a = tt
+    pairwise-left (x ∷ l) m a = (λ y h. a .0 y (Memᴰ·append-left m h), pairwise-left l m (a .1))
+
+    pub pairwise-right : (l m : List A) → Pairwise R (l ++ m) → Pairwise R m
+    pairwise-right [] m a = a
+    pairwise-right (x ∷ l) m a = pairwise-right l m (a .1)
+
+    pub pairwise-across : (l m : List A) → Pairwise R (l ++ m) → {x y : A} → In x l → In y m → R x y
+    pairwise-across [] m a h k = elim h [ ]
+    pairwise-across (x ∷ l) m a {y = y} (here e) k = rw e (a .0 y (Memᴰ·append-right l k))
+    pairwise-across (x ∷ l) m a (there h) k = pairwise-across l m (a .1) h k
 
     pub pairwise-keep : (f : A → Bool) (l : List A) → Pairwise R l → Pairwise R (keep f l)
     unfolding keep

@@ -7,7 +7,7 @@ use mathlib.Core.List.{List·Memᴰ as In, List·Memᴰ·head as here, List·Mem
 use lib.ListN.{length, length-append, length-map}
 use Prim.Native.Nat.{_+_, _*_, _≤_, ℕ, _<_}
 use native.Mathlib.Omega.{arith}
-use Rattle.sweep.specs.Lists.{Pair, upto, keep, Pairwise}
+use Rattle.sweep.specs.Lists.{Pair, upto, keep, lesser-first, adjacent, Pairwise}
 use Rattle.sweep.specs.Chart.{meets, Kind, nothing, crosses, overlaps, Chart, kind, at}
 use Rattle.sweep.specs.Queue.{ends}
 use Rattle.sweep.specs.Sought.{is-crossing, all, occurring, meeting}
@@ -15,7 +15,7 @@ use Rattle.sweep.specs.Geometry.{Occurs}
 use Rattle.sweep.specs.Demand.{Pieces}
 use Rattle.sweep.proofs.Tests.{clash}
 use Rattle.sweep.proofs.Lists.{keep-in, keep-out, keep-length}
-use Rattle.sweep.proofs.Pairs.{upto-length, Sooner, upto-in, upto-out, upto-up, pairs-in, pairs-out, pairs-sooner, pairs-once}
+use Rattle.sweep.proofs.Pairs.{upto-length, Sooner, upto-in, upto-out, upto-up, pairs-in, pairs-out, pairs-sooner, pairs-once, lesser-two, lesser-up, adjacent-out}
 
 pub is-crossing-true : (k : Kind) → is-crossing k ≡ true → k ≡ crosses
 unfolding is-crossing
@@ -23,7 +23,7 @@ is-crossing-true nothing e = clash e refl
 is-crossing-true crosses e = refl
 is-crossing-true overlaps e = clash e refl
 
-is-crossing-yes : (k : Kind) → k ≡ crosses → is-crossing k ≡ true
+pub is-crossing-yes : (k : Kind) → k ≡ crosses → is-crossing k ≡ true
 unfolding is-crossing
 is-crossing-yes k e = rw e
 
@@ -45,6 +45,19 @@ module _ (C : Chart) where
   pub all-once : Pairwise (λ (q r : Pair). q ≢ r) (all C)
   unfolding all
   all-once = pairs-once (upto n) (upto-up n)
+
+  -- two distinct pieces as a pair, and what holds of both, whichever comes first
+  pub two-pieces : (P : ℕ → Type 0) (a b : ℕ) → (a < n) × P a → (b < n) × P b → a ≢ b → Pieces C (lesser-first a b) × (P ((lesser-first a b) .0) × P ((lesser-first a b) .1))
+  two-pieces P a b x y ne =
+      let up = lesser-up a b ne in
+      ⊎-elim
+      (λ (e : lesser-first a b ≡ (a, b)). rw e ((rw e at up, y .0), (x .1, y .1)))
+      (λ (e : lesser-first a b ≡ (b, a)). rw e ((rw e at up, x .0), (y .1, x .1)))
+      (lesser-two a b)
+
+  -- .. of an adjacent pair
+  pub adjacent-two : (P : ℕ → Type 0) (l : List ℕ) → ((i : ℕ) → In i l → (i < n) × P i) → Pairwise (λ i j. i ≢ j) l → (q : Pair) → In q (adjacent l) → Pieces C q × (P (q .0) × P (q .1))
+  adjacent-two P l f d q m = let r = adjacent-out l m d in rw (r .5) (two-pieces P (r .0) (r .1) (f (r .0) (r .2)) (f (r .1) (r .3)) (r .4))
 
   ends-min : {l : List ℕ} {i : ℕ} → In i l → In (min i) (ends C l)
   unfolding ends

@@ -41,6 +41,9 @@ upto-up (suc n) = pairwise-append _<_ (upto n) (n ∷ []) (upto-up n) (λ y m. e
     below i j m (here e) = omega (arith, upto-out n m)
     below i j m (there k) = elim k [ ]
 
+pub upto-once : (n : ℕ) → Pairwise (λ i j. i ≢ j) (upto n)
+upto-once n = pairwise-map _<_ (λ i j. i ≢ j) (upto n) (λ x y a b h. omega arith) (upto-up n)
+
 pub upto-length : (n : ℕ) → length (upto n) ≡ n
 unfolding upto
 upto-length zero = refl

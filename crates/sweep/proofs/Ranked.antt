@@ -156,3 +156,12 @@ module _ (C : Chart) where
               (G .squeeze p c o oc (less-yes K p c o oc pc) i k j (under p i o a) (under p k o b) (under p j o d)
               (less-yes K c (max i) oc (max-occurs C i (a .0)) ci) (less-yes K c (max k) oc (max-occurs C k (b .0)) ck) (less-yes K c (max j) oc (max-occurs C j (d .0)) cj) e f oi oj);
         }
+
+    -- the same points lie on a piece
+    pub ranked-on : {i : ℕ} {p : Point} → ranked .On i p → G .On i p
+    unfolding ranked
+    ranked-on o = o
+
+    pub on-ranked : {i : ℕ} {p : Point} → G .On i p → ranked .On i p
+    unfolding ranked
+    on-ranked o = o

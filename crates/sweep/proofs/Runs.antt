@@ -6,14 +6,15 @@ use mathlib.Core.List.{List, [], _∷_, _++_, append-assoc, append-nil}
 use Prim.Native.Nat.{ℕ, zero, suc, _+_, _-_}
 use native.Mathlib.Omega.{arith}
 use native.Mathlib.Nat.{add-zero, add-suc}
-use lib.ListN.{length, length-append}
-use Rattle.sweep.specs.Lists.{Pair, among, last-of}
+use lib.ListN.{length}
+use Rattle.sweep.specs.Lists.{Pair, among}
 use Rattle.sweep.specs.Chart.{Kind, nothing, crosses, overlaps, Chart, meets, kind, at}
 use Rattle.sweep.specs.State.{Marks, State, start}
 use Rattle.sweep.specs.Queue.{next}
 use Rattle.sweep.specs.Step.{list, wait, each, report, drop, reported, examine-free, examine, examined, step}
-use Rattle.sweep.specs.Run.{move-to, move, onwards, run, taken, visited, answer-of, answer}
-use Rattle.sweep.specs.Demand.{LastVisited, RunsOn, ListsOn}
+use Rattle.sweep.specs.Run.{move-to, move, onwards, run, visited, answer-of, answer}
+use Rattle.sweep.specs.Demand.{ported-run, RunsOn, ListsOn, Tells}
+use Rattle.sweep.proofs.Walks.{Walk, walk-steps, walk-last, walk-ends}
 
 -- the second list begins with the first
 record Begins (l m : List Pair) : Type 0 where
@@ -88,7 +89,7 @@ module _ (C : Chart) where
   onwards-adds s zero = begins-same (s .marks .listed)
   onwards-adds s (suc b) = begins-trans (onwards-adds s b) (move-adds (onwards C b s) (next C (onwards C b s)))
 
-  pub lists-on : ListsOn C
+  pub lists-on : ListsOn C (ported-run C)
   unfolding answer answer-of
   lists-on a b h =
       let c : ℕ = b - a in
@@ -96,27 +97,33 @@ module _ (C : Chart) where
       let r = onwards-adds (run C a) c in
       (r .more, ap (λ (z : State C). z .marks .listed) (ap (run C) e ∙ runs-on a c) ∙ r .is)
 
-  -- steps are counted as points are visited
+  -- the ported mode's run is a walk
+  unfoldable pub walk : Walk C (State C)
+  unfolding run onwards move move-to visited start step
+  walk =
+      record {
+        run = run C;
+        visited = visited C;
+        next = next C;
+        step = step C;
+        last = λ s. s .last;
+        listed = λ s. s .marks .listed;
+        steps = λ s. s .steps;
+        last-start = refl;
+        listed-start = refl;
+        steps-start = refl;
+        visited-start = refl;
+        run-none = λ m e. ap (move-to C (run C m)) e;
+        run-some = λ m p e. ap (move-to C (run C m)) e;
+        visited-more = λ m. refl;
+        step-last = λ s p. refl;
+        step-steps = λ s p. refl;
+      }
+
   pub steps-visited : (m : ℕ) → (run C m) .steps ≡ length (visited C m)
-  unfolding run onwards move visited start
-  steps-visited zero = refl
-  steps-visited (suc m) = go (steps-visited m) (next C (run C m))
-    where
-      go : (run C m) .steps ≡ length (visited C m) → (o : Option Point) → (move-to C (run C m) o) .steps ≡ length (visited C m ++ taken C o)
-      go h none = unfold move-to taken in h ∙ ap length (sym (append-nil (visited C m)))
-      go h (some p) = unfold move-to taken step in omega (arith, length-append (visited C m) (p ∷ []))
+  unfolding walk run visited
+  steps-visited m = walk-steps C walk m
 
-  last-snoc : (l : List Point) (p : Point) → last-of (l ++ (p ∷ [])) ≡ some p
-  unfolding last-of
-  last-snoc [] p = refl
-  last-snoc (x ∷ []) p = refl
-  last-snoc (x ∷ y ∷ l) p = last-snoc (y ∷ l) p
-
-  pub last-visited : LastVisited C
-  unfolding answer answer-of run onwards move visited start last-of
-  last-visited zero = refl
-  last-visited (suc m) = go (last-visited m) (next C (run C m))
-    where
-      go : (run C m) .last ≡ last-of (visited C m) → (o : Option Point) → (move-to C (run C m) o) .last ≡ last-of (visited C m ++ taken C o)
-      go h none = unfold move-to taken in h ∙ ap last-of (sym (append-nil (visited C m)))
-      go h (some p) = unfold move-to taken step in sym (last-snoc (visited C m) p)
+  pub tells : Tells C (ported-run C)
+  unfolding answer answer-of walk run visited
+  tells = record { last-visited = walk-last C walk; counts-visited = walk-steps C walk; ends-visited = walk-ends C walk }

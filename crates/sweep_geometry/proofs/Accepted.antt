@@ -1,8 +1,9 @@
 -- The pieces of an accepted list are proper, and none is upright where its test finds none: so all promises hold of it.
 use mathlib.Core.Path.{_≡_, refl, sym, _∙_}
 use mathlib.Core.Logic.{_↔_, inl, inr, ⊎-elim}
-use mathlib.Core.Bool.{true, false}
+use mathlib.Core.Bool.{Bool, true, false}
 use mathlib.Core.List.{List}
+use mathlib.Core.List.{List·Memᴰ as In}
 use Prim.Native.Nat.{ℕ, _<_}
 use native.Mathlib.Omega.{arith}
 use lib.IntN.{ℤ, negℤ}
@@ -11,6 +12,7 @@ use Rattle.integers.proofs.Order.{≮→≥, <→≢}
 use Rattle.integers.proofs.Sizes.{small-of}
 use Rattle.fractions.specs.declared.Order.{Order}
 use Rattle.fractions.specs.declared.Order.the-variants.{Less, Equal, Greater}
+use Rattle.fractions.specs.declared.Point.{Point}
 use Rattle.fractions.proofs.Orders.{Answer, is-less, is-equal, is-greater, answer}
 use Rattle.line_segment.specs.declared.EndPoint.{EndPoint}
 use Rattle.line_segment.specs.declared.LineSegment.{LineSegment}
@@ -28,8 +30,9 @@ use Rattle.charts.specs.declared.Verdict.the-variants.{Accepted}
 use Rattle.charts.proofs.Rows.{is-true, is-false, says-outside, says-eq}
 use Rattle.charts.proofs.Accepted.{pieces-have-length}
 use Rattle.charts.proofs.Upright.{upright-found}
-use Rattle.sweep.specs.Chart.{meets, kind}
+use Rattle.sweep.specs.Chart.{Chart, meets, kind}
 use Rattle.sweep.specs.Sought.{all, meeting}
+use Rattle.sweep.specs.Demand.{Run, ListsAll, ported-run, reordered}
 use Rattle.sweep.specs.Ported.{isEqual, isUpright, kindOf, ported}
 use Rattle.sweep.proofs.Lists.{keep-in, keep-out}
 use Rattle.sweep.proofs.Occurring.{all-in, all-out}
@@ -89,17 +92,25 @@ yes-meets Nothing = refl
 yes-meets Crossing = refl
 yes-meets (Overlap s) = refl
 
+-- of any run that lists all, whatever the order of the active list
+module _ (list : List ℤ) (n : ℕ) (e : verdictOf list ≡ Accepted n) (before : Point → ℕ → ℕ → Bool) where
+  abbrev C : Chart
+  C = reordered (ported n (pieceAt list)) before
+
+  test : (i j : ℕ) → i < j → j < n → (saysYes (intersectOf (pieceAt list i) (pieceAt list j)) ≡ true) ↔ Meet (pieceAt list i) (pieceAt list j)
+  test i j u v = says-yes-exactly (pieceAt list i) (pieceAt list j) (pieces-have-length list n i e (omega arith)) (pieces-have-length list n j e v)
+
+  pub run-meetings : (R : Run C) → ListsAll C R → (budget : ℕ) → (R .answer budget) .ended ≡ true
+      → (i j : ℕ) → In (i, j) ((R .answer budget) .listed) ↔ ((i < j) × (j < n) × Meet (pieceAt list i) (pieceAt list j))
+  unfolding meeting
+  run-meetings R all-listed budget g i j =
+      let a = all-listed budget g (i, j) in (
+        (λ h.
+            let r = keep-out (λ q. meets (kind C q)) (all C) (a .0 h) in
+            let v = all-out C (r .0) in
+            (v .0, v .1, (test i j (v .0) (v .1)) .0 (sym (yes-meets (intersectOf (pieceAt list i) (pieceAt list j))) ∙ r .1))),
+        (λ h. a .1 (keep-in (λ q. meets (kind C q)) (all-in C (i, j) (h .0, h .1)) (yes-meets (intersectOf (pieceAt list i) (pieceAt list j)) ∙ (test i j (h .0) (h .1)) .1 (h .2)))),
+      )
+
 pub lists-meetings : ListsMeetings
-unfolding meeting
-lists-meetings list n e f budget g i j =
-    let C = ported n (pieceAt list) in
-    let a = (list-sweeps list n e f) .lists-all budget g (i, j) in (
-      (λ h.
-          let r = keep-out (λ q. meets (kind C q)) (all C) (a .0 h) in
-          let v = all-out C (r .0) in
-          (v .0, v .1, (test v) .0 (sym (yes-meets (intersectOf (pieceAt list i) (pieceAt list j))) ∙ r .1))),
-      (λ h. a .1 (keep-in (λ q. meets (kind C q)) (all-in C (i, j) (h .0, h .1)) (yes-meets (intersectOf (pieceAt list i) (pieceAt list j)) ∙ (test (h .0, h .1)) .1 (h .2)))),
-    )
-  where
-    test : (i < j) × (j < n) → (saysYes (intersectOf (pieceAt list i) (pieceAt list j)) ≡ true) ↔ Meet (pieceAt list i) (pieceAt list j)
-    test v = says-yes-exactly (pieceAt list i) (pieceAt list j) (pieces-have-length list n i e (omega arith)) (pieces-have-length list n j e (v .1))
+lists-meetings list n e f = run-meetings list n e (ported n (pieceAt list) .before) (ported-run (ported n (pieceAt list))) ((list-sweeps list n e f) .lists-all)

@@ -26,7 +26,7 @@ use Rattle.sweep.specs.Ported.{isUpright, heightAbove, heightBelow, heightOrder
 use Rattle.sweep_geometry.specs.Full.{fullAbove, fullBelow, fullHeightOrder, fullOrder, full}
 
 -- "piece 0 (0,0)-(0,10), piece 1 (-5,3)-(5,3), piece 2 (-5,6)-(5,6), kind 3"
-gap : ℕ → LineSegment
+unfoldable pub gap : ℕ → LineSegment
 gap i =
     cond (eqb i 0) (pieceOf 3 (pos 0) (pos 0) (pos 0) (pos 10))
     (cond (eqb i 1) (pieceOf 3 (negsuc 4) (pos 3) (pos 5) (pos 3)) (pieceOf 3 (negsuc 4) (pos 6) (pos 5) (pos 6)))

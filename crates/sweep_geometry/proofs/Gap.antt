@@ -1,5 +1,5 @@
 -- How much higher one sloped piece is than another at a point's x: the gap, a linear function of x, whose sign tells.
-use mathlib.Core.Path.{_≡_, sym, ap₂, _∙_}
+use mathlib.Core.Path.{_≡_, sym, ap, ap₂, _∙_}
 use mathlib.Core.List.{[], _∷_}
 use lib.IntN.{ℤ, pos, negℤ, _+ℤ_, _-ℤ_, _*ℤ_}
 use Rattle.integers.proofs.Identity.{by-ring, terms}
@@ -8,7 +8,7 @@ use Rattle.fractions.specs.declared.Point.{Point}
 use Rattle.line_segment.specs.declared.LineSegment.{LineSegment}
 use Rattle.line_segment.specs.Geometry.{run, rise, side}
 use Rattle.line_segment.specs.Segment.{moment}
-use Rattle.line_segment.proofs.Sides.{tilt, side-line}
+use Rattle.line_segment.proofs.Sides.{tilt, side-line, even}
 
 -- a sloped piece's height at the point's x, above the line of the fraction; below it stands run times D
 abbrev pub height : LineSegment → Point → ℤ
@@ -52,7 +52,7 @@ module _ (a b : LineSegment) where
   unfolding tilt
   slope-tilt = by-ring (run a ∷ rise a ∷ run b ∷ rise b ∷ []) (search terms depth 60 fits 20000) tt
 
-  gap-sides : (p : Point) → gap p ≡ run b *ℤ side a p -ℤ run a *ℤ side b p
+  pub gap-sides : (p : Point) → gap p ≡ run b *ℤ side a p -ℤ run a *ℤ side b p
   unfolding level tilt
   gap-sides p =
       sym (sides₀ (run a) (rise a) (moment a) (run b) (rise b) (moment b) (p .x) (p .y) (pos (p .d)))
@@ -67,3 +67,17 @@ module _ (a b : LineSegment) where
 
   pub gap-second : (p : Point) → side b p ≡ pos 0 → gap p ≡ run b *ℤ side a p
   gap-second p e = gap-sides p ∙ rw e (by-ring (run a ∷ run b ∷ side a p ∷ []) (search terms depth 60 fits 20000) tt)
+
+-- the gap at points of one x has one sign, and points where it is 0 have one x unless it is 0 everywhere
+module _ (l t X D X′ D′ : ℤ) where
+  pub same-gap : X *ℤ D′ ≡ X′ *ℤ D → at l t X D *ℤ D′ ≡ at l t X′ D′ *ℤ D
+  same-gap e =
+      by-ring (l ∷ t ∷ X ∷ D ∷ D′ ∷ []) {a = at l t X D *ℤ D′} {b = l *ℤ D *ℤ D′ +ℤ t *ℤ (X *ℤ D′)} (search terms depth 60 fits 20000) tt
+      ∙ ap (λ (z : ℤ). l *ℤ D *ℤ D′ +ℤ t *ℤ z) e
+      ∙ by-ring (l ∷ t ∷ X′ ∷ D ∷ D′ ∷ []) (search terms depth 60 fits 20000) tt
+
+  pub zeros-x : ¬ (t ≡ pos 0) → at l t X D ≡ pos 0 → at l t X′ D′ ≡ pos 0 → X *ℤ D′ ≡ X′ *ℤ D
+  zeros-x nt e f =
+      even (X *ℤ D′) (X′ *ℤ D) t nt
+      (by-ring (l ∷ t ∷ X ∷ D ∷ X′ ∷ D′ ∷ []) {a = (X *ℤ D′ -ℤ X′ *ℤ D) *ℤ t} {b = at l t X D *ℤ D′ -ℤ at l t X′ D′ *ℤ D} (search terms depth 60 fits 20000) tt
+      ∙ rw (e, f) (by-ring (D ∷ D′ ∷ []) (search terms depth 60 fits 20000) tt))

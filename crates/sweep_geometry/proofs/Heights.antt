@@ -25,7 +25,7 @@ use Rattle.sweep.specs.Ported.{isLess, heightAbove, heightBelow, heightOrder, s
 use Rattle.sweep_geometry.specs.Full.{fullAbove, fullBelow, fullHeightOrder, fullOrder}
 use Rattle.sweep_geometry.proofs.Comparisons.{Orders, order-scaled, fraction-orders}
 use Rattle.sweep_geometry.proofs.Ranking.{rank-irr, rank-trans, rank-total}
-use Rattle.sweep_geometry.proofs.Slopes.{sloped-not, standing-is}
+use Rattle.sweep_geometry.proofs.Slopes.{sloped-not, standing-is, slope-orders}
 use Rattle.sweep_geometry.proofs.Gap.{height, gap, slope-tilt, gap-heights}
 
 module _ (s : LineSegment) (p : Point) where
@@ -54,11 +54,11 @@ module _ (s : LineSegment) (p : Point) where
 
 -- ---- the two orders of the active list
 module _ (p : Point) where
-  full-heights : 0 < p .d → Orders Leads (fullHeightOrder p)
+  pub full-heights : 0 < p .d → Orders Leads (fullHeightOrder p)
   unfolding fullHeightOrder
   full-heights d = fraction-orders (λ s. fullAbove s p) (λ s. fullBelow s p) (λ s l. below-up s p d l)
 
-  full-even : (s : LineSegment) → fullHeightOrder p s s ≡ Equal
+  pub full-even : (s : LineSegment) → fullHeightOrder p s s ≡ Equal
   unfolding fullHeightOrder
   full-even s = order-equal refl
 
@@ -75,31 +75,35 @@ module _ (p : Point) where
   unfolding heightOrder
   ported-even s = order-equal refl
 
+slope-even : (s : LineSegment) → slopeOrder s s ≡ Equal
+unfolding slopeOrder
+slope-even s = order-equal refl
+
 module _ (piece : ℕ → LineSegment) (p : Point) where
   pub full-irr : (i : ℕ) → isLess (fullOrder piece p i i) ≡ false
   unfolding fullOrder
-  full-irr = rank-irr piece (fullHeightOrder p) (full-even p)
+  full-irr = rank-irr piece (fullHeightOrder p) slopeOrder (full-even p) slope-even
 
   pub ported-irr : (i : ℕ) → isLess (rankOrder piece p i i) ≡ false
   unfolding rankOrder
-  ported-irr = rank-irr piece (heightOrder p) (ported-even p)
+  ported-irr = rank-irr piece (heightOrder p) slopeOrder (ported-even p) slope-even
 
   module _ (d : 0 < p .d) (i j : ℕ) (a : Leads (piece i)) (b : Leads (piece j)) where
     pub full-trans : (k : ℕ) → Leads (piece k) → isLess (fullOrder piece p i j) ≡ true → isLess (fullOrder piece p j k) ≡ true → isLess (fullOrder piece p i k) ≡ true
     unfolding fullOrder
-    full-trans = rank-trans piece (fullHeightOrder p) (full-heights p d) i j a b
+    full-trans = rank-trans piece (fullHeightOrder p) slopeOrder (full-heights p d) slope-orders i j a b
 
     pub full-total : i ≢ j → isLess (fullOrder piece p i j) ≡ false → isLess (fullOrder piece p j i) ≡ true
     unfolding fullOrder
-    full-total = rank-total piece (fullHeightOrder p) (full-heights p d) i j a b
+    full-total = rank-total piece (fullHeightOrder p) slopeOrder (full-heights p d) slope-orders i j a b
 
     pub ported-trans : (k : ℕ) → Leads (piece k) → isLess (rankOrder piece p i j) ≡ true → isLess (rankOrder piece p j k) ≡ true → isLess (rankOrder piece p i k) ≡ true
     unfolding rankOrder
-    ported-trans = rank-trans piece (heightOrder p) (ported-heights p d) i j a b
+    ported-trans = rank-trans piece (heightOrder p) slopeOrder (ported-heights p d) slope-orders i j a b
 
     pub ported-total : i ≢ j → isLess (rankOrder piece p i j) ≡ false → isLess (rankOrder piece p j i) ≡ true
     unfolding rankOrder
-    ported-total = rank-total piece (heightOrder p) (ported-heights p d) i j a b
+    ported-total = rank-total piece (heightOrder p) slopeOrder (ported-heights p d) slope-orders i j a b
 
 -- ---- sloped pieces: by the gap, then by the tilt
 pub order-diff : (a b : ℤ) → order a b ≡ order (pos 0) (b -ℤ a)

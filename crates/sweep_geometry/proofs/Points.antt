@@ -1,6 +1,6 @@
 -- The order of points as the chart asks for it.
 use mathlib.Core.Path.{_≡_, refl, ap, _∙_}
-use mathlib.Core.Bool.{false}
+use mathlib.Core.Bool.{true, false}
 use Rattle.fractions.specs.Order.{turned}
 use Rattle.fractions.specs.Point.{pointOrder}
 use Rattle.fractions.specs.declared.Order.{Order}
@@ -23,3 +23,6 @@ not-less p q f = go (pointOrder p q) refl
     go Less e = ap isLess (point-turned p q ∙ ap turned e)
     go Equal e = ap isLess (point-turned p q ∙ ap turned e)
     go Greater e = absurd (f e)
+
+pub up-to : (p q : Point) → isLess (pointOrder p q) ≡ true → ¬ (pointOrder p q ≡ Greater)
+up-to p q e g = clash e (ap isLess g)

@@ -1,11 +1,11 @@
--- The facts of geometry, supplied from integers, for any order of the active list that agrees with the full one.
+-- The facts of geometry, supplied from integers, for any order of the active list that is strict and total and says where
+-- pieces lie (`Ranks`).
 use mathlib.Core.Path.{_≡_, refl, sym, ap, _∙_}
-use mathlib.Core.Logic.{_⊎_, inl, inr, ⊎-elim}
+use mathlib.Core.Logic.{_⊎_, _≢_, inl, inr, ⊎-elim}
 use mathlib.Core.Bool.{Bool, true, false, cond}
 use Prim.Native.Nat.{ℕ, _<_}
 use native.Mathlib.Omega.{arith}
 use lib.IntN.{pos}
-use Rattle.fractions.specs.Order.{order}
 use Rattle.fractions.specs.Point.{Lowest, Bounded, pointOrder}
 use Rattle.fractions.specs.declared.Order.{Order}
 use Rattle.fractions.specs.declared.Order.the-variants.{Less, Equal, Greater}
@@ -21,7 +21,6 @@ use Rattle.line_segment.specs.Geometry.{LiesOn, side, Common, OneLine}
 use Rattle.line_segment.specs.Segment.{intersectOf, containsOf, crossingOf}
 use Rattle.line_segment.specs.Demand.{saysOverlap, OnlyPoint}
 use Rattle.line_segment.proofs.Promises.{says-yes-exactly, overlap-exactly, same-whichever-asks, crossing-is-cramers, overlap-ends, contains-exactly}
-use Rattle.line_segment.proofs.Along.{Leads, leads}
 use Rattle.line_segment.proofs.Lying.{whole, forward, closed-of, closed-line, closed-from, closed-upto, lies-closed, lies-inside}
 use Rattle.line_segment.proofs.Sides.{min-on, max-on}
 use Rattle.line_segment.proofs.CramersPoint.{crossing-stays-bounded}
@@ -32,14 +31,13 @@ use Rattle.sweep.specs.Geometry.{Occurs, Under, CrossBetween, PointsOrdered, Ge
 use Rattle.sweep.proofs.Tests.{ask}
 use Rattle.sweep.proofs.Occurring.{End, occurs-out}
 use Rattle.sweep.proofs.Occurring.{Crossing as CrossingAt}
-use Rattle.sweep_geometry.specs.Full.{fullOrder}
 use Rattle.sweep_geometry.specs.Demand.{AllProper}
 use Rattle.sweep_geometry.proofs.Comparisons.{never}
 use Rattle.sweep_geometry.proofs.Ranking.{less-is}
-use Rattle.sweep_geometry.proofs.Heights.{full-trans, full-total}
-use Rattle.sweep_geometry.proofs.Points.{at-most, not-less}
+use Rattle.sweep_geometry.proofs.Points.{at-most, not-less, up-to}
 use Rattle.sweep_geometry.proofs.Turning.{crossing-of, CrossIn}
-use Rattle.sweep_geometry.proofs.Squeeze.{Precedes, squeeze}
+use Rattle.sweep_geometry.proofs.Preceding.{Precedes}
+use Rattle.sweep_geometry.proofs.Squeeze.{squeeze}
 use Rattle.sweep_geometry.proofs.Aligned.{aligned-dec, aligned-trans}
 
 -- ---- what a kind says of the test
@@ -95,8 +93,14 @@ module _ (a b : LineSegment) (la : HasLength a) (lb : HasLength b) where
                 (at-most-trans (pointOf (a .min)) f (pointOf (b .max)) (whole (a .min)) df (whole (b .max)) (closed-from a f oa) (closed-upto b f ob)),
           )
 
-module _ (n : ℕ) (piece : ℕ → LineSegment) (ok : AllProper n piece)
-    (before : Point → ℕ → ℕ → Bool) where
+-- a strict total order of pieces at a point, that says where they lie
+pub record Ranks (n : ℕ) (piece : ℕ → LineSegment) (before : Point → ℕ → ℕ → Bool) : Type 0 where
+  pub irr : (p : Point) (i : ℕ) → before p i i ≡ false
+  pub trans : (p : Point) → 0 < p .d → (i j k : ℕ) → i < n → j < n → k < n → before p i j ≡ true → before p j k ≡ true → before p i k ≡ true
+  pub total : (p : Point) → 0 < p .d → (i j : ℕ) → i < n → j < n → i ≢ j → before p i j ≡ false → before p j i ≡ true
+  pub precedes : (p : Point) → 0 < p .d → (i j : ℕ) → i < n → j < n → before p i j ≡ true → Precedes p (piece i) (piece j)
+
+module _ (n : ℕ) (piece : ℕ → LineSegment) (ok : AllProper n piece) (before : Point → ℕ → ℕ → Bool) where
   abbrev pub C : Chart
   C =
       record {
@@ -112,7 +116,7 @@ module _ (n : ℕ) (piece : ℕ → LineSegment) (ok : AllProper n piece)
         before = before;
       }
 
-  len : (i : ℕ) → i < n → HasLength (piece i)
+  pub len : (i : ℕ) → i < n → HasLength (piece i)
   len i h = ok i h .length
 
   -- ---- the points that occur are in lowest terms and within the bounds
@@ -142,7 +146,7 @@ module _ (n : ℕ) (piece : ℕ → LineSegment) (ok : AllProper n piece)
           let m = (crossing-is-cramers (piece (q .0)) (piece (q .1)) (len (q .0) (omega arith)) (len (q .1) (v .1)) (kind-crosses _ k)) .1 in
           rw e (m .lowest, crossing-stays-bounded (piece (q .0)) (piece (q .1)) (ok (q .0) (omega arith) .charted) (ok (q .1) (v .1) .charted))
 
-  positive : (p : Point) → Occurs C p → 0 < p .d
+  pub positive : (p : Point) → Occurs C p → 0 < p .d
   positive p o = (reduced p o) .0 .positive
 
   less-same : (p q : Point) → Occurs C p → Occurs C q → isLess (pointOrder p q) ≡ false → isLess (pointOrder q p) ≡ false → p ≡ q
@@ -163,7 +167,7 @@ module _ (n : ℕ) (piece : ℕ → LineSegment) (ok : AllProper n piece)
 
   -- ---- the test
   module _ (i j : ℕ) (hi : i < n) (hj : j < n) where
-    crossing-point : kindOf (intersectOf (piece i) (piece j)) ≡ crosses → OnlyPoint (piece i) (piece j) (crossingOf (piece i) (piece j))
+    pub crossing-point : kindOf (intersectOf (piece i) (piece j)) ≡ crosses → OnlyPoint (piece i) (piece j) (crossingOf (piece i) (piece j))
     crossing-point k = (crossing-is-cramers (piece i) (piece j) (len i hi) (len j hj) (kind-crosses _ k)) .1
 
     shared : (p : Point) → Occurs C p → containsOf (piece i) p ≡ true → containsOf (piece j) p ≡ true → Common (piece i) (piece j) p
@@ -175,38 +179,30 @@ module _ (n : ℕ) (piece : ℕ → LineSegment) (ok : AllProper n piece)
           second = (contains-exactly (piece j) p (len j hj) (r .0 .positive) (r .1)) .0 f;
         }
 
-    contains-crosses : (p : Point) → Occurs C p → containsOf (piece i) p ≡ true → containsOf (piece j) p ≡ true → ¬ OneLine (piece i) (piece j) → kindOf (intersectOf (piece i) (piece j)) ≡ crosses
+    pub contains-crosses : (p : Point) → Occurs C p → containsOf (piece i) p ≡ true → containsOf (piece j) p ≡ true → ¬ OneLine (piece i) (piece j) → kindOf (intersectOf (piece i) (piece j)) ≡ crosses
     contains-crosses p o e f na =
         ap kindOf
         (crossing-of (intersectOf (piece i) (piece j)) ((says-yes-exactly (piece i) (piece j) (len i hi) (len j hj)) .1 (p, shared p o e f))
         (λ y. na (((overlap-exactly (piece i) (piece j) (len i hi) (len j hj)) .0 y) .0)))
 
-  on-range : (i : ℕ) (p : Point) → On (piece i) p → (isLess (pointOrder p (pointOf (piece i .min))) ≡ false) × (isLess (pointOrder (pointOf (piece i .max)) p) ≡ false)
+  pub on-range : (i : ℕ) (p : Point) → On (piece i) p → (isLess (pointOrder p (pointOf (piece i .min))) ≡ false) × (isLess (pointOrder (pointOf (piece i .max)) p) ≡ false)
   on-range i p o = (not-less (pointOf (piece i .min)) p (closed-from (piece i) p o), not-less p (pointOf (piece i .max)) (closed-upto (piece i) p o))
 
-  contains-on : (i : ℕ) (p : Point) → i < n → Occurs C p → containsOf (piece i) p ≡ true → On (piece i) p
+  pub contains-on : (i : ℕ) (p : Point) → i < n → Occurs C p → containsOf (piece i) p ≡ true → On (piece i) p
   contains-on i p h o e = let r = reduced p o in lies-closed (piece i) p ((contains-exactly (piece i) p (len i h) (r .0 .positive) (r .1)) .0 e)
 
-  on-contains : (i : ℕ) (p : Point) → i < n → Occurs C p → On (piece i) p → isLess (pointOrder (pointOf (piece i .min)) p) ≡ true → isLess (pointOrder p (pointOf (piece i .max))) ≡ true → containsOf (piece i) p ≡ true
+  pub on-contains : (i : ℕ) (p : Point) → i < n → Occurs C p → On (piece i) p → isLess (pointOrder (pointOf (piece i .min)) p) ≡ true → isLess (pointOrder p (pointOf (piece i .max))) ≡ true → containsOf (piece i) p ≡ true
   on-contains i p h o on e f =
       let r = reduced p o in
       (contains-exactly (piece i) p (len i h) (r .0 .positive) (r .1)) .1 (lies-inside (piece i) p (closed-line (piece i) p on) (less-is _ e) (less-is _ f))
 
   -- ---- the squeeze
-  between : (p c : Point) (i j : ℕ) → CrossIn (piece i) (piece j) p c → CrossBetween C p c i j
+  pub between : (p c : Point) (i j : ℕ) → CrossIn (piece i) (piece j) p c → CrossBetween C p c i j
   between p c i j x = (ap kindOf (x .cross), ap isLess (x .after), ap isLess (x .until))
 
-  lies : (i : ℕ) → i < n → Leads (piece i)
-  lies i h = leads (piece i) (len i h)
-
-  -- ---- for an order that agrees with the full one
-  module _ (irr : (p : Point) (i : ℕ) → before p i i ≡ false)
-      (agree : (p : Point) (i j : ℕ) → i < n → j < n → isLess (fullOrder piece p i j) ≡ before p i j) where
-    precedes : (p : Point) (i j : ℕ) → i < n → j < n → before p i j ≡ true → Precedes p (piece i) (piece j) (order (pos i) (pos j))
-    unfolding fullOrder
-    precedes p i j hi hj e = less-is (fullOrder piece p i j) (agree p i j hi hj ∙ e)
-
-    squeezed : (p c : Point) → Occurs C p → Occurs C c → isLess (pointOrder p c) ≡ true → (i k j : ℕ) → Under C p i → Under C p k → Under C p j
+  -- ---- for an order that is strict and total and says where pieces lie
+  module _ (R : Ranks n piece before) where
+    pub squeezed : (p c : Point) → Occurs C p → Occurs C c → isLess (pointOrder p c) ≡ true → (i k j : ℕ) → Under C p i → Under C p k → Under C p j
         → isLess (pointOrder c (pointOf (piece i .max))) ≡ true → isLess (pointOrder c (pointOf (piece k .max))) ≡ true → isLess (pointOrder c (pointOf (piece j .max))) ≡ true
         → before p i k ≡ true → before p k j ≡ true → On (piece i) c → On (piece j) c → On (piece k) c ⊎ (CrossBetween C p c i k ⊎ CrossBetween C p c k j)
     squeezed p c op oc pc i k j ui uk uj ci ck cj e f oi oj =
@@ -218,10 +214,11 @@ module _ (n : ℕ) (piece : ℕ → LineSegment) (ok : AllProper n piece)
         (λ g. never (less-is _ ck) g (omega arith))))
         (λ (z : CrossIn (piece i) (piece k) p c ⊎ CrossIn (piece k) (piece j) p c). inr (⊎-elim (λ x. inl (between p c i k x)) (λ x. inr (between p c k j x)) z))
         (squeeze (piece i) (piece k) (piece j) (len i (ui .0)) (len k (uk .0)) (len j (uj .0)) p c (positive p op) (positive c oc)
-        (at-most (pointOf (piece i .min)) p (ui .1)) from (at-most (pointOf (piece j .min)) p (uj .1)) (less-is _ ci) (less-is _ ck) (less-is _ cj)
-        (order (pos i) (pos k)) (order (pos k) (pos j)) (precedes p i k (ui .0) (uk .0) e) (precedes p k j (uk .0) (uj .0) f) (closed-line (piece i) c oi) (closed-line (piece j) c oj) (less-is _ pc))
+        (at-most (pointOf (piece i .min)) p (ui .1)) from (at-most (pointOf (piece j .min)) p (uj .1)) (up-to c (pointOf (piece i .max)) ci) (up-to c (pointOf (piece k .max)) ck) (up-to c (pointOf (piece j .max)) cj)
+        (R .precedes p (positive p op) i k (ui .0) (uk .0) e) (R .precedes p (positive p op) k j (uk .0) (uj .0) f) (closed-line (piece i) c oi) (closed-line (piece j) c oj) (less-is _ pc))
 
-    pub geometry : Geometry C
+    unfoldable pub geometry : Geometry C
+    unfolding later
     geometry =
         record {
           On = λ i p. On (piece i) p;
@@ -239,14 +236,11 @@ module _ (n : ℕ) (piece : ℕ → LineSegment) (ok : AllProper n piece)
           crossing-only = λ i j p hi hj ne o k oi oj. (crossing-point i j hi hj k) .only p ((reduced p o) .0) (closed-line (piece i) p oi) (closed-line (piece j) p oj);
           crossing-not-aligned = λ i j hi hj ne k. (crossing-is-cramers (piece i) (piece j) (len i hi) (len j hj) (kind-crosses _ k)) .0;
           contains-crosses = λ i j p hi hj ne o e f na. contains-crosses i j hi hj p o e f na;
-          overlap-on = λ i j hi hj ne k. unfold later in overlap-on (piece i) (piece j) (len i hi) (len j hj) k;
+          overlap-on = λ i j hi hj ne k. overlap-on (piece i) (piece j) (len i hi) (len j hj) k;
           aligned-dec = λ i j. aligned-dec (piece i) (piece j);
           aligned-trans = λ i j k p hi hj hk o oi oj ok′ l m. aligned-trans (piece i) (piece j) (piece k) (len j hj) l m;
-          before-irr = irr;
-          before-trans = λ p o i j k ui uj uk e f.
-              sym (agree p i k (ui .0) (uk .0))
-              ∙ full-trans piece p (positive p o) i j (lies i (ui .0)) (lies j (uj .0)) k (lies k (uk .0)) (agree p i j (ui .0) (uj .0) ∙ e) (agree p j k (uj .0) (uk .0) ∙ f);
-          before-total = λ p o i j ui uj ne e.
-              sym (agree p j i (uj .0) (ui .0)) ∙ full-total piece p (positive p o) i j (lies i (ui .0)) (lies j (uj .0)) ne (agree p i j (ui .0) (uj .0) ∙ e);
+          before-irr = R .irr;
+          before-trans = λ p o i j k ui uj uk e f. R .trans p (positive p o) i j k (ui .0) (uj .0) (uk .0) e f;
+          before-total = λ p o i j ui uj ne e. R .total p (positive p o) i j (ui .0) (uj .0) ne e;
           squeeze = squeezed;
         }

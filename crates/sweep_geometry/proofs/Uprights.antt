@@ -4,7 +4,6 @@ use mathlib.Core.Path.{_≡_, refl, sym, ap, _∙_, subst}
 use mathlib.Core.Logic.{⊎-elim}
 use mathlib.Core.List.{[], _∷_}
 use Prim.Native.Nat.{_<_}
-use native.Mathlib.Omega.{arith}
 use lib.IntN.{ℤ, pos, _+ℤ_, _-ℤ_, _*ℤ_}
 use lib.Signed.{_≤ℤ_, _<ℤ_, clashℤ}
 use Rattle.integers.proofs.Identity.{by-ring, terms}
@@ -14,14 +13,13 @@ use Rattle.integers.proofs.Factors.{*-cancel-≤, p/p, zero-product}
 use Rattle.integers.proofs.Naturals.{pos-<}
 use Rattle.fractions.specs.Point.{pointOrder}
 use Rattle.fractions.specs.declared.Order.{Order}
-use Rattle.fractions.specs.declared.Order.the-variants.{Less, Greater}
+use Rattle.fractions.specs.declared.Order.the-variants.{Greater}
 use Rattle.fractions.specs.declared.Point.{Point}
 use Rattle.fractions.proofs.Points.{Places, left, below, same, above, right, places}
 use Rattle.line_segment.specs.declared.LineSegment.{LineSegment}
 use Rattle.line_segment.specs.Piece.{pointOf}
 use Rattle.line_segment.specs.Geometry.{run, rise, side}
 use Rattle.line_segment.proofs.Along.{Leads, rightward, upward}
-use Rattle.sweep_geometry.proofs.Comparisons.{never}
 
 x-at-most : (p q : Point) → ¬ (pointOrder p q ≡ Greater) → (p .x *ℤ pos (q .d)) ≤ℤ (q .x *ℤ pos (p .d))
 x-at-most p q f = go (places p q) f
@@ -33,10 +31,7 @@ x-at-most p q f = go (places p q) f
     go (above e h) f = ≡→≤ e
     go (right h) f = absurd (f refl)
 
-less-not : {o : Order} → o ≡ Less → ¬ (o ≡ Greater)
-less-not e g = never e g (omega arith)
-
--- ---- an upright piece that holds p and reaches beyond c stands at their x
+-- ---- an upright piece that has begun by p and reaches c stands at their x
 module _ (x X D X′ D′ : ℤ) (pd : pos 0 <ℤ D) (pd′ : pos 0 <ℤ D′) (h : (x *ℤ D) ≤ℤ (X *ℤ pos 1)) (k : (X′ *ℤ pos 1) ≤ℤ (x *ℤ D′)) where
   not-west : ¬ ((X *ℤ D′) <ℤ (X′ *ℤ D))
   not-west w =
@@ -59,14 +54,14 @@ no-run : (a b : ℤ) → b -ℤ a ≡ pos 0 → b ≡ a
 no-run a b e = by-ring (a ∷ b ∷ []) {a = b} {b = a +ℤ (b -ℤ a)} (search terms depth 60 fits 20000) tt ∙ ap (λ (z : ℤ). a +ℤ z) e ∙ by-ring (a ∷ []) (search terms depth 60 fits 20000) tt
 
 module _ (s : LineSegment) (p c : Point) (dp : 0 < p .d) (dc : 0 < c .d)
-    (s-from : ¬ (pointOrder (pointOf (s .min)) p ≡ Greater)) (s-upto : pointOrder c (pointOf (s .max)) ≡ Less) where
+    (s-from : ¬ (pointOrder (pointOf (s .min)) p ≡ Greater)) (s-upto : ¬ (pointOrder c (pointOf (s .max)) ≡ Greater)) where
   from-x : (s .min .x *ℤ pos (p .d)) ≤ℤ (p .x *ℤ pos 1)
   unfolding pointOf
   from-x = x-at-most (pointOf (s .min)) p s-from
 
   upto-x : run s ≡ pos 0 → (c .x *ℤ pos 1) ≤ℤ (s .min .x *ℤ pos (c .d))
   unfolding pointOf run
-  upto-x e = subst (λ (z : ℤ). (c .x *ℤ pos 1) ≤ℤ (z *ℤ pos (c .d))) (no-run (s .min .x) (s .max .x) e) (x-at-most c (pointOf (s .max)) (less-not s-upto))
+  upto-x e = subst (λ (z : ℤ). (c .x *ℤ pos 1) ≤ℤ (z *ℤ pos (c .d))) (no-run (s .min .x) (s .max .x) e) (x-at-most c (pointOf (s .max)) s-upto)
 
   pub west-sloped : (p .x *ℤ pos (c .d)) <ℤ (c .x *ℤ pos (p .d)) → Leads s → pos 0 <ℤ run s
   west-sloped w (rightward h) = h
