@@ -6,7 +6,7 @@ edit of the order, the smallest chart found on which a fact fails with it. Exits
 an edit fails no chart or is not known here.
 The definitions are full_order's specs/Finer read once more, over whole numbers; points l before p are any two that occur.
 The edits are made by hand below: that they are those of the crate is held to their names alone. `one_mode_with_uprights`
-is about the two modes: the scope's upright gap is its chart."""
+is about the two modes: the upright gap of docs/CHART.md is its chart."""
 import random
 import sys
 from collections import Counter
@@ -102,6 +102,10 @@ def try_orders(f, points, say):
                 say("below-first", f.before(p, i, j))
             if f.piece[i].on(p) and f.aside(p, j) < 0:
                 say("above-last", f.before(p, i, j))
+            kind, c = f.chart.test(i, j)
+            if kind == "crossing" and p < c and f.before(p, i, j):
+                a, b = f.piece[i], f.piece[j]
+                say("ahead-steeper", a.rise * b.run > b.rise * a.run)
         for i, j, k in permutations(here, 3):
             if f.before(p, i, j) and f.before(p, j, k):
                 say("before-trans", f.before(p, i, k))

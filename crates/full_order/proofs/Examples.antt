@@ -1,4 +1,4 @@
--- The upright gap in the new mode, and pieces on which the finer order is not document 01's, computed on the definitions.
+-- The upright gap in the new mode, and pieces on which rising slope would exchange too early, computed on the definitions.
 use mathlib.Core.Path.{_≡_, refl}
 use mathlib.Core.Bool.{true, cond}
 use mathlib.Core.List.{[], _∷_}

@@ -2,26 +2,23 @@
 use mathlib.Core.Path.{_≡_, refl, ap}
 use mathlib.Core.List.{List, [], _∷_, _++_, map}
 use mathlib.Core.List.{List·Memᴰ as In, List·Memᴰ·head as here, List·Memᴰ·tail as there}
-use mathlib.Core.Option.{Option, none, some}
-use Prim.Native.Nat.{ℕ, zero, suc, _-_}
+use Prim.Native.Nat.{ℕ, suc, _-_}
 use native.Mathlib.Omega.{arith}
 use lib.ListN.{length, take, drop}
 use Rattle.sweep.specs.Lists.{Pair, lesser-first, last-of, adjacent-from, adjacent}
-use Rattle.sweep.specs.Chart.{Chart}
-use Rattle.full_steps.specs.InPlace.{Sides, joint-of, joint}
+use Rattle.full_steps.specs.InPlace.{joint-of, joint}
 
 -- the adjacent pairs of two joined lists: those of the first, the joint, those of the second
-module _ (C : Chart) (S : Sides C) where
-  from-append : (i : ℕ) (l m : List ℕ) → adjacent-from i (l ++ m) ≡ adjacent-from i l ++ (joint C S (i ∷ l) m ++ adjacent m)
-  unfolding adjacent adjacent-from joint joint-of last-of
-  from-append i [] [] = refl
-  from-append i [] (j ∷ m) = refl
-  from-append i (k ∷ l) m = ap (λ (z : List Pair). lesser-first i k ∷ z) (from-append k l m)
+from-append : (i : ℕ) (l m : List ℕ) → adjacent-from i (l ++ m) ≡ adjacent-from i l ++ (joint (i ∷ l) m ++ adjacent m)
+unfolding adjacent adjacent-from joint joint-of last-of
+from-append i [] [] = refl
+from-append i [] (j ∷ m) = refl
+from-append i (k ∷ l) m = ap (λ (z : List Pair). lesser-first i k ∷ z) (from-append k l m)
 
-  pub adjacent-append : (l m : List ℕ) → adjacent (l ++ m) ≡ adjacent l ++ (joint C S l m ++ adjacent m)
-  unfolding adjacent joint joint-of last-of
-  adjacent-append [] m = refl
-  adjacent-append (i ∷ l) m = from-append i l m
+pub adjacent-append : (l m : List ℕ) → adjacent (l ++ m) ≡ adjacent l ++ (joint l m ++ adjacent m)
+unfolding adjacent joint joint-of last-of
+adjacent-append [] m = refl
+adjacent-append (i ∷ l) m = from-append i l m
 
 -- of what is kept for each adjacent pair of two joined lists: the first list's part, and the second's
 module _ {A : Type 0} (f : Pair → A) where

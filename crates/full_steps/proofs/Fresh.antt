@@ -1,7 +1,7 @@
 -- Listing without marks: the pieces at the next point are the block and the starters, and of two of them a crossing is new,
 -- and an overlap where one of them starts.
 use mathlib.Core.Path.{_≡_, refl, sym, ap, _∙_}
-use mathlib.Core.Logic.{_⊎_, inl, inr, ⊎-elim, _≢_, by-cases}
+use mathlib.Core.Logic.{_⊎_, ⊎-elim, _≢_, by-cases}
 use mathlib.Core.Bool.{Bool, true, _||_}
 use mathlib.Core.Option.{some}
 use mathlib.Core.List.{List, _++_}
@@ -74,12 +74,12 @@ module _ (C : Chart) (S : Sides C) (G : Geometry C) (A : InPlaceFacts C S G) (s 
   unfolding starts
   key-start i h e = same-yes C (R .keyed) (min i) p (min-occurs C i h) op e
 
-  fresh-is : (k : Kind) (q : Pair) → kind C q ≡ k → fresh C S p q ≡ fresh-by C S k p q
+  fresh-is : (k : Kind) (q : Pair) → kind C q ≡ k → fresh C p q ≡ fresh-by C k p q
   unfolding fresh
   fresh-is k q e = rw e
 
   -- two pieces on p that pass for new do meet first there
-  fresh-first : (q : Pair) → Pieces C q → R .On (q .0) p → R .On (q .1) p → fresh C S p q ≡ true → (meets (kind C q) ≡ true) × (key (first C q) ≡ key p)
+  fresh-first : (q : Pair) → Pieces C q → R .On (q .0) p → R .On (q .1) p → fresh C p q ≡ true → (meets (kind C q) ≡ true) × (key (first C q) ≡ key p)
   unfolding fresh-by
   fresh-first q v a b e =
       ⊎-elim
@@ -100,7 +100,7 @@ module _ (C : Chart) (S : Sides C) (G : Geometry C) (A : InPlaceFacts C S G) (s 
       (kind-cases (kind C q))
 
   -- and the other way round
-  first-fresh : (q : Pair) → Pieces C q → meets (kind C q) ≡ true → key (first C q) ≡ key p → fresh C S p q ≡ true
+  first-fresh : (q : Pair) → Pieces C q → meets (kind C q) ≡ true → key (first C q) ≡ key p → fresh C p q ≡ true
   unfolding fresh-by
   first-fresh q v m d =
       ⊎-elim
@@ -115,7 +115,7 @@ module _ (C : Chart) (S : Sides C) (G : Geometry C) (A : InPlaceFacts C S G) (s 
 
   fresh-pairs-at : fresh-pairs C S (s .active) p ≡ pairs-at C p
   unfolding fresh-pairs gathered
-  fresh-pairs-at = chosen C R p op part part-on on-part (fresh C S p) fresh-first first-fresh
+  fresh-pairs-at = chosen C R p op part part-on on-part (fresh C p) fresh-first first-fresh
 
   pub same-listed : reported C s p ≡ s .listed ++ fresh-pairs C S (s .active) p
   unfolding step

@@ -1,12 +1,12 @@
 -- The block replaced in place is the active list that the step sorts: the same members, in order, and there is but one
 -- such list.
-use mathlib.Core.Path.{_≡_, refl, sym, ap, _∙_}
+use mathlib.Core.Path.{_≡_, sym, _∙_}
 use mathlib.Core.Logic.{⊎-elim, _≢_, _↔_}
-use mathlib.Core.Bool.{Bool, true, false, not}
+use mathlib.Core.Bool.{true, false, not}
 use mathlib.Core.Option.{some}
 use mathlib.Core.List.{List, _++_, Memᴰ·append-left, Memᴰ·append-right, List·Memᴰ·append-cases}
 use mathlib.Core.List.{List·Memᴰ as In}
-use Prim.Native.Nat.{ℕ, _≤_, _<_}
+use Prim.Native.Nat.{ℕ}
 use native.Mathlib.Omega.{arith}
 use Rattle.fractions.specs.declared.Order.the-variants.{Less, Equal, Greater}
 use Rattle.sweep.specs.Lists.{upto, keep, sort, Pairwise}
@@ -20,7 +20,7 @@ use Rattle.sweep.proofs.Sorting.{sort-in, sort-out, sort-once, sort-sorted, sor
 use Rattle.sweep.proofs.Pairs.{upto-out, upto-once}
 use Rattle.sweep.proofs.Occurring.{min-occurs, max-occurs}
 use Rattle.sweep.proofs.Ranked.{Act, Ranked, ranked, ranked-on, on-ranked, less-yes, less-no, Keyed}
-use Rattle.sweep.proofs.Between.{bound, Lined, Soonest}
+use Rattle.sweep.proofs.Between.{Lined, Soonest}
 use Rattle.sweep.proofs.Soonest.{no-max, starts-on, finishes-on, goes-on, starts-act, starts-apart}
 use Rattle.sweep.proofs.Lining.{sorted-line}
 use Rattle.full_steps.specs.Steps.{State, next, ranged}
@@ -93,10 +93,10 @@ module _ (C : Chart) (S : Sides C) (G : Geometry C) (A : InPlaceFacts C S G) (s 
   above-act i m = let r = above-out i m in off-act i (r .0) (λ e. let z : _≡_ {A = ℕ} 0 1 = cc (r .1) in absurd (omega arith))
 
   -- ---- the renewed block
-  abbrev goers : List ℕ
+  abbrev pub goers : List ℕ
   goers = keep (λ i. not (finishes C p i)) (block C S (s .active) p)
 
-  abbrev comers : List ℕ
+  abbrev pub comers : List ℕ
   comers = keep (starts C p) (upto n)
 
   -- on p and going on
@@ -118,7 +118,7 @@ module _ (C : Chart) (S : Sides C) (G : Geometry C) (A : InPlaceFacts C S G) (s 
 
   pub renewed-through : (i : ℕ) → In i (renewed C S (s .active) p) → Through i
   unfolding renewed
-  renewed-through i m = through i (sort-out rises (goers ++ comers) m)
+  renewed-through i m = through i (sort-out _ (goers ++ comers) m)
 
   rises-is : (i j : ℕ) → Through i → Through j → before p i j ≡ rises i j
   rises-is i j a b = A .on-rises p op i j (act-under i (a .0)) (act-under j (b .0)) (ranked-on C G (a .1)) (ranked-on C G (b .1))
@@ -133,16 +133,27 @@ module _ (C : Chart) (S : Sides C) (G : Geometry C) (A : InPlaceFacts C S G) (s 
       let r = keep-out (starts C p) (upto n) b in
       starts-apart C R (s .active) (s .last) L p here-at i j ((block-out i ((keep-out (λ i. not (finishes C p i)) (block C S (s .active) p) a) .0)) .0) (upto-out n (r .0)) (r .1))
 
-  renewed-line : Pairwise (λ i j. before p i j ≡ true) (renewed C S (s .active) p)
+  rises-trans : (x y z : ℕ) → Through x → Through y → Through z → rises x y ≡ true → rises y z ≡ true → rises x z ≡ true
+  rises-trans x y z i j l e d = sym (rises-is x z i l) ∙ R .before-trans p op x y z (i .0) (j .0) (l .0) (rises-is x y i j ∙ e) (rises-is y z j l ∙ d)
+
+  renewed-rises : Pairwise (λ i j. rises i j ≡ true) (renewed C S (s .active) p)
   unfolding renewed
+  renewed-rises =
+      sort-sorted rises Through rises-trans
+      (λ x y i j ne e. sym (rises-is y x j i) ∙ R .before-total p op x y (i .0) (j .0) ne (rises-is x y i j ∙ e))
+      (goers ++ comers) through comes-once
+
+  renewed-line : Pairwise (λ i j. before p i j ≡ true) (renewed C S (s .active) p)
   renewed-line =
-      pairwise-map (λ i j. rises i j ≡ true) (λ i j. before p i j ≡ true) (sort rises (goers ++ comers))
-      (λ i j a b e. rises-is i j (through i (sort-out rises (goers ++ comers) a)) (through j (sort-out rises (goers ++ comers) b)) ∙ e)
-      (sort-sorted rises Through
-      (λ x y z a b c e d.
-      sym (rises-is x z a c) ∙ R .before-trans p op x y z (a .0) (b .0) (c .0) (rises-is x y a b ∙ e) (rises-is y z b c ∙ d))
-      (λ x y a b ne e. sym (rises-is y x b a) ∙ R .before-total p op x y (a .0) (b .0) ne (rises-is x y a b ∙ e))
-      (goers ++ comers) through comes-once)
+      pairwise-map (λ i j. rises i j ≡ true) (λ i j. before p i j ≡ true) (renewed C S (s .active) p)
+      (λ i j x y e. rises-is i j (renewed-through i x) (renewed-through j y) ∙ e) renewed-rises
+
+  -- any list of these pieces by slope and number is the renewed block, in whatever order they were put in
+  pub renewed-alone : (l : List ℕ) → Pairwise (λ i j. rises i j ≡ true) l → ((i : ℕ) → In i l → In i (goers ++ comers)) → ((i : ℕ) → In i (goers ++ comers) → In i l) → l ≡ renewed C S (s .active) p
+  unfolding renewed
+  renewed-alone l u f g =
+      sorted-same rises Through (λ i t. sym (rises-is i i t t) ∙ R .before-irr p i) rises-trans l (sort rises (goers ++ comers))
+      (λ i m. through i (f i m)) u renewed-rises (λ i m. sort-in rises (f i m)) (λ i m. g i (sort-out rises (goers ++ comers) m))
 
   pub renewed-once : Pairwise (λ i j. i ≢ j) (renewed C S (s .active) p)
   unfolding renewed
@@ -224,7 +235,7 @@ module _ (C : Chart) (S : Sides C) (G : Geometry C) (A : InPlaceFacts C S G) (s 
   pub same-active : ranged C (s .active) p ≡ replaced C S (s .active) p
   unfolding ranged replaced
   same-active =
-      sorted-same (before p) (Act C key p) (R .before-irr p) (R .before-trans p op)
+      sorted-same (before p) (Act C key p) (λ i x. R .before-irr p i) (R .before-trans p op)
       (sort (before p) (stayers C R s I p hp ++ starters C R s I p hp)) (b ++ (r ++ a))
       (λ i m. member-act C R s I p hp i (sort-out (before p) (stayers C R s I p hp ++ starters C R s I p hp) m))
       (sorted-line C R p op (stayers C R s I p hp ++ starters C R s I p hp) (member-act C R s I p hp) (act-member C R s I p hp) (members-once C R s I p hp))

@@ -1,24 +1,24 @@
 -- Along the active list the side of the next point never goes back: what lies below it, goes through it and lies above it
 -- stand in this order.
-use mathlib.Core.Path.{_≡_, refl, ap, _∙_, sym}
-use mathlib.Core.Logic.{_⊎_, ⊎-elim}
-use mathlib.Core.Bool.{Bool, true, false}
+use mathlib.Core.Path.{_≡_, refl, ap, _∙_}
+use mathlib.Core.Logic.{⊎-elim}
+use mathlib.Core.Bool.{true, false}
 use mathlib.Core.Option.{none, some}
 use mathlib.Core.List.{List, [], _∷_, _++_}
 use mathlib.Core.List.{List·Memᴰ as In}
-use Prim.Native.Nat.{ℕ, _<_}
+use Prim.Native.Nat.{ℕ}
 use native.Mathlib.Omega.{arith}
 use Rattle.fractions.specs.declared.Order.{Order}
 use Rattle.fractions.specs.declared.Order.the-variants.{Less, Equal, Greater}
 use Rattle.sweep.specs.Lists.{keep, Pairwise}
-use Rattle.sweep.specs.Chart.{crosses, Chart}
+use Rattle.sweep.specs.Chart.{Chart}
 use Rattle.sweep.specs.Geometry.{Occurs, Under, CrossBetween, Geometry}
 use Rattle.sweep.specs.Ported.{isLess, isEqual}
 use Rattle.sweep.proofs.Tests.{clash}
-use Rattle.sweep.proofs.Lists.{keep-none, keep-out, pairwise-map}
+use Rattle.sweep.proofs.Lists.{keep-none, pairwise-map}
 use Rattle.sweep.proofs.Occurring.{min-occurs, max-occurs}
-use Rattle.sweep.proofs.Ranked.{Act, Ranked, ranked, less-true, less-yes, less-no, Keyed}
-use Rattle.sweep.proofs.Between.{which, bound, bound-none, bound-some, Lined, Soonest}
+use Rattle.sweep.proofs.Ranked.{Ranked, ranked, less-true, less-yes, less-no, Keyed}
+use Rattle.sweep.proofs.Between.{which, bound, bound-none, bound-some, Soonest}
 use Rattle.sweep.proofs.Soonest.{no-max}
 use Rattle.full_steps.specs.Steps.{State, next}
 use Rattle.full_steps.specs.InPlace.{isGreater, Sides, InPlaceFacts, below, block, above}

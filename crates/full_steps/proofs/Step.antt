@@ -1,14 +1,12 @@
 -- One step of the new mode takes the least point that is left, lists the pairs that meet first there, and keeps what
 -- holds between steps: crate sweep's laws for any mode, applied to this queue, these pieces and this active list.
-use mathlib.Core.Path.{_≡_, refl, sym, ap, subst}
-use mathlib.Core.Logic.{_⊎_, inl, inr, ⊎-elim, _≢_, by-cases}
+use mathlib.Core.Path.{_≡_, subst}
+use mathlib.Core.Logic.{_⊎_, inl, inr, ⊎-elim, _≢_}
 use mathlib.Core.Bool.{Bool, true, false, _||_, not}
 use mathlib.Core.Option.{none, some}
 use mathlib.Core.List.{List, [], _∷_, _++_, map, Memᴰ·append-left, Memᴰ·append-right, List·Memᴰ·append-cases, Memᴰ·map, Memᴰ·of-map}
 use mathlib.Core.List.{List·Memᴰ as In}
-use Prim.Native.Nat.{ℕ, suc, _≤_, _<_}
-use native.Mathlib.Omega.{arith}
-use native.Mathlib.Decide.{decLt}
+use Prim.Native.Nat.{ℕ, _≤_, _<_}
 use Rattle.sweep.specs.Lists.{Pair, upto, keep, adjacent, Pairwise}
 use Rattle.sweep.specs.Chart.{crosses, Chart, kind, at}
 use Rattle.sweep.specs.Queue.{ends, beyond}
@@ -20,9 +18,9 @@ use Rattle.sweep.proofs.Tests.{or-one, or-left, or-right, not-true}
 use Rattle.sweep.proofs.Lists.{keep-in, keep-out, pairwise-keep, pairwise-append}
 use Rattle.sweep.proofs.Pairs.{upto-in, upto-out, upto-once}
 use Rattle.sweep.proofs.Occurring.{adjacent-two, is-crossing-true, is-crossing-yes, min-in, max-in, ends-out, end-occurs, min-occurs, max-occurs, at-occurs}
-use Rattle.sweep.proofs.Least.{least-some, least-none}
 use Rattle.sweep.proofs.Ranked.{Act, Ranked, Keyed}
-use Rattle.sweep.proofs.Between.{bound, Met, Lined, lined-none, met-none, Soonest, no-point}
+use Rattle.sweep.proofs.Between.{bound, Met, Lined, lined-none, met-none, Soonest}
+use Rattle.sweep.proofs.Queued.{Queued, queued-none, queued-soonest}
 use Rattle.sweep.proofs.Soonest.{beyond-yes, beyond-true, inside, starts-on, finishes-on, inside-on, on-cases, goes-on, starts-act, act-late, act-cases, starts-apart}
 use Rattle.sweep.proofs.Lining.{sorted-lined}
 use Rattle.sweep.proofs.Listing.{unlisted, pass-lists, met-more}
@@ -31,13 +29,13 @@ use Rattle.full_steps.specs.Steps.{State, start, crossings, queue, next,
 module _ (C : Chart) where
   open Chart C using (Point, n, min, max)
 
-  report-yes : (q : Pair) (l : List Pair) → unlisted C l q ≡ true → report C q l ≡ l ++ (q ∷ [])
-  unfolding report
-  report-yes q l e = rw e
-
   report-no : (q : Pair) (l : List Pair) → unlisted C l q ≡ false → report C q l ≡ l
   unfolding report
   report-no q l e = rw e
+
+  report-yes : (q : Pair) (l : List Pair) → unlisted C l q ≡ true → report C q l ≡ l ++ (q ∷ [])
+  unfolding report
+  report-yes q l e = rw e
 
   module _ (F : Ranked C) where
     open Keyed (F .keyed) using (key)
@@ -87,43 +85,32 @@ module _ (C : Chart) where
           in
           (o, beyond-true C F (s .active) (s .last) L p o (r .1))
 
+      queued : Queued C F (s .active) (s .last) L (queue C s)
+      queued = record { a-min = queue-min; a-max = queue-max; beside = queue-beside; only = queue-out }
+
       -- where the queue is empty, no point is left
       pub next-none : next C s ≡ none → (x : Point) → Occurs C x → key x < bound key (s .last)
       unfolding next
-      next-none e x o =
-          by-cases (decLt (key x) (bound key (s .last)))
-          (λ (h : key x < bound key (s .last)). h)
-          (λ (h : ¬ (key x < bound key (s .last))).
-          absurd
-          (omega (
-            arith,
-            no-point C F (s .active) (s .last) L (suc (key x))
-                (λ i g d. absurd (least-none C (queue C s) e (min i) (queue-min i g d)))
-                (λ i g d. absurd (least-none C (queue C s) e (max i) (queue-max i g d)))
-                (λ q m k d. absurd (least-none C (queue C s) e (at C q) (queue-beside q m k d)))
-                x o (omega arith),
-          )))
+      next-none e = queued-none C F (s .active) (s .last) L (queue C s) queued e
 
       module _ (p : Point) (hp : next C s ≡ some p) where
-        taken-least : In p (queue C s) × ((x : Point) → In x (queue C s) → key p ≤ key x)
-        unfolding next
-        taken-least = least-some C (F .keyed) (queue C s) p (λ x m. (queue-out x m) .0) hp
-
         pub next-soonest : Soonest C F (s .last) p
-        next-soonest =
-            record {
-              occurs = (queue-out p (taken-least .0)) .0;
-              new = (queue-out p (taken-least .0)) .1;
-              least = no-point C F (s .active) (s .last) L (key p)
-                  (λ i h b. taken-least .1 (min i) (queue-min i h b))
-                  (λ i h b. taken-least .1 (max i) (queue-max i h b))
-                  (λ q m k b. taken-least .1 (at C q) (queue-beside q m k b));
-            }
+        unfolding next
+        next-soonest = queued-soonest C F (s .active) (s .last) L (queue C s) queued p hp
 
         abbrev within : ℕ → Bool
         within = inside C F (s .active) (s .last) L p next-soonest
 
         -- the pieces at p are those that lie on it
+        pub on-part : (i : ℕ) → i < n → F .On i p → takes-part C (s .active) p i ≡ true
+        unfolding takes-part
+        on-part i h o = go (on-cases C F (s .active) (s .last) L p next-soonest i h o)
+          where
+            go : (starts C p i ≡ true) ⊎ ((finishes C p i ≡ true) ⊎ (within i ≡ true)) → takes-part C (s .active) p i ≡ true
+            go (inl e) = or-left (starts C p i || finishes C p i) (within i) (or-left (starts C p i) (finishes C p i) e)
+            go (inr (inl e)) = or-left (starts C p i || finishes C p i) (within i) (or-right (starts C p i) (finishes C p i) e)
+            go (inr (inr e)) = or-right (starts C p i || finishes C p i) (within i) e
+
         pub part-on : (i : ℕ) → i < n → takes-part C (s .active) p i ≡ true → F .On i p
         unfolding takes-part
         part-on i h e =
@@ -135,15 +122,6 @@ module _ (C : Chart) where
             (or-one (starts C p i) (finishes C p i) r))
             (λ (a : within i ≡ true). inside-on C F (s .active) (s .last) L p next-soonest i h a)
             (or-one (starts C p i || finishes C p i) (within i) e)
-
-        pub on-part : (i : ℕ) → i < n → F .On i p → takes-part C (s .active) p i ≡ true
-        unfolding takes-part
-        on-part i h o = go (on-cases C F (s .active) (s .last) L p next-soonest i h o)
-          where
-            go : (starts C p i ≡ true) ⊎ ((finishes C p i ≡ true) ⊎ (within i ≡ true)) → takes-part C (s .active) p i ≡ true
-            go (inl e) = or-left (starts C p i || finishes C p i) (within i) (or-left (starts C p i) (finishes C p i) e)
-            go (inr (inl e)) = or-left (starts C p i || finishes C p i) (within i) (or-right (starts C p i) (finishes C p i) e)
-            go (inr (inr e)) = or-right (starts C p i || finishes C p i) (within i) e
 
         pub step-listed : (step C s p) .listed ≡ s .listed ++ pairs-at C p
         unfolding step reported pieces

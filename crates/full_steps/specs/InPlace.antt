@@ -30,6 +30,49 @@ somes [] = []
 somes (none ∷ l) = somes l
 somes (some a ∷ l) = a ∷ somes l
 
+-- the pair where one list ends and the next begins, if neither is empty
+unfoldable pub joint-of : Option ℕ → List ℕ → List Pair
+joint-of none l = []
+joint-of (some i) [] = []
+joint-of (some i) (j ∷ l) = lesser-first i j ∷ []
+
+unfoldable pub joint : List ℕ → List ℕ → List Pair
+joint k l = joint-of (last-of k) l
+
+module _ (C : Chart) where
+  open Chart C using (Point)
+
+  -- of two pieces at p, a crossing is new, and an overlap is where one of them starts
+  unfoldable pub fresh-by : Kind → Point → Pair → Bool
+  fresh-by nothing p q = false
+  fresh-by crosses p q = true
+  fresh-by overlaps p q = starts C p (q .0) || starts C p (q .1)
+
+  unfoldable pub fresh : Point → Pair → Bool
+  fresh p q = fresh-by (kind C q) p q
+
+  -- a pair's lane: its crossing beyond the last point, or none
+  unfoldable pub lane : Option Point → Pair → Option Point
+  lane last q = cond (is-crossing (kind C q) && beyond C last (at C q)) (some (at C q)) none
+
+  unfoldable pub lanes : Option Point → List ℕ → List (Option Point)
+  lanes last active = map (lane last) (adjacent active)
+
+  -- what is held between two steps, the lanes with it
+  pub record Held : Type 0 where
+    pub active : List ℕ
+    pub lanes : List (Option Point)
+    pub listed : List Pair
+    pub last : Option Point
+    pub steps : ℕ
+
+  unfoldable pub empty : Held
+  empty = record { active = []; lanes = []; listed = []; last = none; steps = 0 }
+
+  -- the next point is the least of the ends beyond the last point and the lanes
+  unfoldable pub held-next : Held → Option Point
+  held-next h = least C (keep (beyond C (h .last)) (ends C (upto (C .n))) ++ somes (h .lanes))
+
 -- how a chart's pieces lie of a point: Less where p is below piece i, Equal where it is on it, Greater where it is above;
 -- and whether i comes before j by rising slope (an upright piece last), then number
 pub record Sides (C : Chart) : Type 0 where
@@ -61,61 +104,21 @@ module _ (C : Chart) (S : Sides C) where
   unfoldable pub gathered : List ℕ → Point → List ℕ
   gathered active p = keep (λ i. starts C p i || any (eqb i) (block active p)) (upto n)
 
-  -- of two pieces at p, a crossing is new, and an overlap is where one of them starts
-  unfoldable pub fresh-by : Kind → Point → Pair → Bool
-  fresh-by nothing p q = false
-  fresh-by crosses p q = true
-  fresh-by overlaps p q = starts C p (q .0) || starts C p (q .1)
-
-  unfoldable pub fresh : Point → Pair → Bool
-  fresh p q = fresh-by (kind C q) p q
-
   -- listing without marks
   unfoldable pub fresh-pairs : List ℕ → Point → List Pair
-  fresh-pairs active p = keep (fresh p) (pairs (gathered active p))
-
-  -- a pair's lane: its crossing beyond the last point, or none
-  unfoldable pub lane : Option Point → Pair → Option Point
-  lane last q = cond (is-crossing (kind C q) && beyond C last (at C q)) (some (at C q)) none
-
-  unfoldable pub lanes : Option Point → List ℕ → List (Option Point)
-  lanes last active = map (lane last) (adjacent active)
-
-  -- the pair where one list ends and the next begins, if neither is empty
-  unfoldable pub joint-of : Option ℕ → List ℕ → List Pair
-  joint-of none l = []
-  joint-of (some i) [] = []
-  joint-of (some i) (j ∷ l) = lesser-first i j ∷ []
-
-  unfoldable pub joint : List ℕ → List ℕ → List Pair
-  joint k l = joint-of (last-of k) l
+  fresh-pairs active p = keep (fresh C p) (pairs (gathered active p))
 
   -- the lanes after a step at p: those outside the block stay, there is none inside it, and the outer pairs are worked out
   -- anew; where the block is empty that is the one pair that closes up
   unfoldable pub relaned : List (Option Point) → List ℕ → Point → List (Option Point)
   relaned old active p =
       take (length (below active p) - 1) old
-      ++ (map (lane (some p)) (joint (below active p) (renewed active p ++ above active p))
+      ++ (map (lane C (some p)) (joint (below active p) (renewed active p ++ above active p))
       ++ (map (λ q. none) (adjacent (renewed active p))
-      ++ (map (lane (some p)) (joint (renewed active p) (above active p))
+      ++ (map (lane C (some p)) (joint (renewed active p) (above active p))
       ++ drop (length (below active p) + length (block active p)) old)))
 
-  -- what is held between two steps, the lanes with it
-  pub record Held : Type 0 where
-    pub active : List ℕ
-    pub lanes : List (Option Point)
-    pub listed : List Pair
-    pub last : Option Point
-    pub steps : ℕ
-
-  unfoldable pub empty : Held
-  empty = record { active = []; lanes = []; listed = []; last = none; steps = 0 }
-
-  -- the next point is the least of the ends beyond the last point and the lanes
-  unfoldable pub held-next : Held → Option Point
-  held-next h = least C (keep (beyond C (h .last)) (ends C (upto n)) ++ somes (h .lanes))
-
-  unfoldable pub held-step : Held → Point → Held
+  unfoldable pub held-step : Held C → Point → Held C
   held-step h p = record {
     active = replaced (h .active) p;
     lanes = relaned (h .lanes) (h .active) p;
@@ -124,19 +127,19 @@ module _ (C : Chart) (S : Sides C) where
     steps = suc (h .steps);
   }
 
-  unfoldable pub held-to : Held → Option Point → Held
+  unfoldable pub held-to : Held C → Option Point → Held C
   held-to h none = h
   held-to h (some p) = held-step h p
 
-  unfoldable pub held-run : ℕ → Held
-  held-run zero = empty
-  held-run (suc m) = held-to (held-run m) (held-next (held-run m))
+  unfoldable pub held-run : ℕ → Held C
+  held-run zero = empty C
+  held-run (suc m) = held-to (held-run m) (held-next C (held-run m))
 
   unfoldable pub held-answer : ℕ → Answer C
   held-answer m = record {
     listed = (held-run m) .listed;
     steps = (held-run m) .steps;
-    ended = is-none C (held-next (held-run m));
+    ended = is-none C (held-next C (held-run m));
     complete = true;
     last = (held-run m) .last;
   }

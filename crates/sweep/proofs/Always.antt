@@ -11,7 +11,7 @@ use native.Mathlib.Omega.{arith}
 use lib.Dec.{ltb, eqb}
 use lib.ListN.{length, length-append}
 use borrow.Author.Tests.{eqb-true, ltb-true}
-use Rattle.sweep.specs.Lists.{Pair, upto, keep, pairs, lesser-first, adjacent, Pairwise}
+use Rattle.sweep.specs.Lists.{Pair, upto, keep, pairs, adjacent, Pairwise}
 use Rattle.sweep.specs.Chart.{Chart, same, at}
 use Rattle.sweep.specs.State.{Marks, State, start}
 use Rattle.sweep.specs.Queue.{ends, beyond, queue, next}

@@ -6,7 +6,7 @@
 --   whatever the geometry: runs add up, lists grow   Runs        runs-on, lists-on, steps-visited; Walks: of any walk
 --   one step of the ported mode                      Stepped     step-inv; Marked, Next, Active, Reported, Examined
 --   of whichever mode: what holds between steps      Between     Lined, Met, Soonest, no-point; Neighbours
---   .. who is at the next point, what is listed      Soonest, Listing, Lining
+--   .. the next point, who is there, what is listed  Queued, Soonest, Listing, Lining
 --   the first common point                           First       first-on, first-least
 --   points by their keys; which points occur         Ranked      less-true, same-true; Occurring: occurs-out
 --   the points in order                              Ascending   points-up
@@ -23,6 +23,7 @@ pub mod Least
 pub mod Neighbours
 pub mod First
 pub mod Between
+pub mod Queued
 pub mod Soonest
 pub mod Listing
 pub mod Lining

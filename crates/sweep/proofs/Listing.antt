@@ -1,6 +1,6 @@
 -- A pass over the pieces at the next point, of whichever mode, lists exactly the pairs that meet first there, in number
 -- order.
-use mathlib.Core.Path.{_≡_, refl, sym, ap, _∙_}
+use mathlib.Core.Path.{_≡_, sym, ap, _∙_}
 use mathlib.Core.Logic.{⊎-elim, _≢_, by-cases}
 use mathlib.Core.Bool.{Bool, true, false, _&&_, not}
 use mathlib.Core.Option.{Option}

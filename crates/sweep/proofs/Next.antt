@@ -1,13 +1,12 @@
 -- The next point of the ported mode is the least that is left, and the pieces that take part are those that lie on it.
 use mathlib.Core.Path.{_≡_, sym, ap, subst}
-use mathlib.Core.Logic.{_⊎_, inl, inr, ⊎-elim, by-cases}
-use mathlib.Core.Bool.{Bool, true, _&&_, _||_}
+use mathlib.Core.Logic.{_⊎_, inl, inr, ⊎-elim}
+use mathlib.Core.Bool.{Bool, true, _||_}
 use mathlib.Core.Option.{none, some}
 use mathlib.Core.List.{map, Memᴰ·append-left, Memᴰ·append-right, List·Memᴰ·append-cases, Memᴰ·map, Memᴰ·of-map}
 use mathlib.Core.List.{List·Memᴰ as In}
-use Prim.Native.Nat.{ℕ, suc, _≤_, _<_}
+use Prim.Native.Nat.{ℕ, _≤_, _<_}
 use native.Mathlib.Omega.{arith}
-use native.Mathlib.Decide.{decLt}
 use lib.Dec.{eqb}
 use borrow.Author.Tests.{eqb-true}
 use Rattle.sweep.specs.Lists.{Pair, adjacent, upto, keep}
@@ -19,10 +18,10 @@ use Rattle.sweep.specs.Geometry.{Occurs}
 use Rattle.sweep.proofs.Tests.{and-both, or-one, or-left, or-right}
 use Rattle.sweep.proofs.Lists.{keep-in, keep-out, any-out}
 use Rattle.sweep.proofs.Occurring.{End, Crossing, min-in, max-in, ends-out, end-occurs, min-occurs, max-occurs, at-occurs}
-use Rattle.sweep.proofs.Least.{least-some, least-none}
 use Rattle.sweep.proofs.Ranked.{Ranked, same-true, Keyed}
 use Rattle.sweep.proofs.First.{first-crosses}
-use Rattle.sweep.proofs.Between.{bound, Soonest, no-point}
+use Rattle.sweep.proofs.Between.{bound, Soonest}
+use Rattle.sweep.proofs.Queued.{Queued, queued-none, queued-least, queued-soonest}
 use Rattle.sweep.proofs.Marked.{Inv}
 use Rattle.sweep.proofs.Soonest.{beyond-yes, beyond-true, inside, starts-on, finishes-on, inside-on, on-cases}
 
@@ -87,44 +86,22 @@ module _ (C : Chart) where
     point-occurs (inl e) = end-occurs C e
     point-occurs (inr (q, v, k, e)) = rw e (at-occurs C q v k)
 
-    queue-occurs : (p : Point) → In p (queue C s) → Occurs C p
-    queue-occurs p m = point-occurs ((queue-out p m) .1)
+    queued : Queued C F (s .active) (s .last) (I .lined) (queue C s)
+    queued = record { a-min = queue-min; a-max = queue-max; beside = queue-beside; only = λ p m. let r = queue-out p m in (point-occurs (r .1), r .0) }
 
     -- where the queue is empty, no point is left
     pub next-none : next C s ≡ none → (x : Point) → Occurs C x → key x < bound key (s .last)
     unfolding next
-    next-none e x o =
-        by-below (λ b.
-        no-point C F (s .active) (s .last) (I .lined) (suc (key x))
-        (λ i h d. absurd (least-none C (queue C s) e (min i) (queue-min i h d)))
-        (λ i h d. absurd (least-none C (queue C s) e (max i) (queue-max i h d)))
-        (λ q m k d. absurd (least-none C (queue C s) e (at C q) (queue-beside q m k d)))
-        x o b)
-      where
-        by-below : (bound key (s .last) ≤ key x → suc (key x) ≤ key x) → key x < bound key (s .last)
-        by-below f =
-            by-cases (decLt (key x) (bound key (s .last)))
-            (λ (h : key x < bound key (s .last)). h)
-            (λ (h : ¬ (key x < bound key (s .last))). absurd (omega (arith, f (omega arith))))
+    next-none e = queued-none C F (s .active) (s .last) (I .lined) (queue C s) queued e
 
     module _ (p : Point) (hp : next C s ≡ some p) where
-      taken-least : In p (queue C s) × ((x : Point) → In x (queue C s) → key p ≤ key x)
-      unfolding next
-      taken-least = least-some C (F .keyed) (queue C s) p queue-occurs hp
-
       pub no-wait : (q : Pair) → In q (s .marks .waiting) → key p ≤ key (at C q)
-      no-wait q m = taken-least .1 (at C q) (queue-wait q m)
+      unfolding next
+      no-wait q m = (queued-least C F (s .active) (s .last) (I .lined) (queue C s) queued p hp) .1 (at C q) (queue-wait q m)
 
       pub next-soonest : Soonest C F (s .last) p
-      next-soonest =
-          record {
-            occurs = queue-occurs p (taken-least .0);
-            new = (queue-out p (taken-least .0)) .0;
-            least = no-point C F (s .active) (s .last) (I .lined) (key p)
-                (λ i h b. taken-least .1 (min i) (queue-min i h b))
-                (λ i h b. taken-least .1 (max i) (queue-max i h b))
-                (λ q m k b. taken-least .1 (at C q) (queue-beside q m k b));
-          }
+      unfolding next
+      next-soonest = queued-soonest C F (s .active) (s .last) (I .lined) (queue C s) queued p hp
 
       pub turns-on : (i : ℕ) → turns C s p i ≡ true → F .On i p
       turns-on i e =

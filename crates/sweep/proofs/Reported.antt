@@ -1,8 +1,8 @@
 -- The pairs that a step of the ported mode lists: exactly those that meet first at its point, in number order.
-use mathlib.Core.Path.{_≡_, refl, ap}
+use mathlib.Core.Path.{_≡_, ap}
 use mathlib.Core.Bool.{true, false, not}
 use mathlib.Core.Option.{some}
-use mathlib.Core.List.{List, [], _∷_, _++_}
+use mathlib.Core.List.{[], _∷_, _++_}
 use mathlib.Core.List.{List·Memᴰ as In}
 use Prim.Native.Nat.{suc, _≤_}
 use native.Mathlib.Omega.{arith}

@@ -1,5 +1,4 @@
--- The next point p of a sweep, of whichever mode: a pair that is not done meets first there or later, and a piece on p
--- starts there, finishes there, or is active and contains it.
+-- The next point p of a sweep, of whichever mode: a piece on p starts there, finishes there, or is active and contains it.
 use mathlib.Core.Path.{_≡_, refl, ap}
 use mathlib.Core.Logic.{_⊎_, inl, inr, ⊎-elim, _≢_, by-cases}
 use mathlib.Core.Bool.{Bool, true, false, _&&_}
@@ -10,18 +9,15 @@ use Prim.Native.Nat.{ℕ, _≤_, _<_}
 use native.Mathlib.Omega.{arith}
 use native.Mathlib.Decide.{decLt, ℕ-discrete}
 use lib.Dec.{eqb}
-use Rattle.sweep.specs.Lists.{Pair, any}
-use Rattle.sweep.specs.Chart.{Chart, meets, kind}
+use Rattle.sweep.specs.Lists.{any}
+use Rattle.sweep.specs.Chart.{Chart}
 use Rattle.sweep.specs.Queue.{beyond}
 use Rattle.sweep.specs.Step.{starts, finishes}
-use Rattle.sweep.specs.Sought.{first}
 use Rattle.sweep.specs.Geometry.{Occurs}
-use Rattle.sweep.specs.Demand.{Pieces}
 use Rattle.sweep.proofs.Tests.{and-both, eqb-yes}
 use Rattle.sweep.proofs.Lists.{any-in}
 use Rattle.sweep.proofs.Occurring.{min-occurs, max-occurs}
 use Rattle.sweep.proofs.Ranked.{Act, Ranked, less-true, less-yes, same-yes, same-true, same-false, same-no, Keyed}
-use Rattle.sweep.proofs.First.{first-occurs}
 use Rattle.sweep.proofs.Between.{which, bound, bound-none, bound-some, Lined, Soonest}
 
 module _ (C : Chart) (F : Ranked C) (active : List ℕ) (last : Option (C .Point)) (L : Lined C F active last) where
@@ -52,10 +48,6 @@ module _ (C : Chart) (F : Ranked C) (active : List ℕ) (last : Option (C .Point
 
     pub no-max : (i : ℕ) → i < n → bound key last ≤ key (max i) → key p ≤ key (max i)
     no-max i h b = N .least (max i) (max-occurs C i h) b
-
-    -- no pair meets first before p, unless that is done
-    pub no-first : (q : Pair) → Pieces C q → meets (kind C q) ≡ true → bound key last ≤ key (first C q) → key p ≤ key (first C q)
-    no-first q v e b = N .least (first C q) (first-occurs C F q v e) b
 
     abbrev pub inside : ℕ → Bool
     inside i = any (eqb i) active && contains i p

@@ -21,7 +21,7 @@ use Rattle.sweep.proofs.Pairs.{upto-in}
 use Rattle.sweep.proofs.Active.{stay-out, enter-out, stay-once, enter-once}
 use Rattle.sweep.proofs.Occurring.{adjacent-two, max-occurs}
 use Rattle.sweep.proofs.Ranked.{Act, Ranked, same-false, Keyed}
-use Rattle.sweep.proofs.Between.{bound, Lined, Soonest}
+use Rattle.sweep.proofs.Between.{bound, Soonest}
 use Rattle.sweep.proofs.Soonest.{goes-on, starts-act, act-late, act-cases, starts-apart}
 use Rattle.sweep.proofs.Lining.{sorted-act, sorted-once, sorted-lined}
 use Rattle.sweep.proofs.Marked.{Inv}
