@@ -4,6 +4,7 @@
 mod heights;
 mod table;
 
+pub use heights::slope_order;
 pub use table::fill;
 ghost use mathlib.Core.Path.{_≡_};
 ghost use Prim.Native.Nat.{ℕ, _+_, _*_, _/_, _%_};

@@ -1,0 +1,3 @@
+-- What the contracts of the new mode's active list cite.
+pub mod Ranks
+pub mod Replaced

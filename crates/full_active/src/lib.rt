@@ -1,0 +1,10 @@
+// The active list of the new mode, in the first `live` places of an array. At a point the block of the pieces through it is
+// found there, the pieces at the point are gathered by number, those that go on or start are put in order by slope, and
+// these are written in the block's place.
+mod moves;
+mod ranks;
+
+pub use moves::replace;
+pub use ranks::gather;
+pub use ranks::gather_starters;
+pub use ranks::renew_starters;
