@@ -2,9 +2,16 @@
 // found there, the pieces at the point are gathered by number, those that go on or start are put in order by slope, and
 // these are written in the block's place.
 mod moves;
+mod parts;
 mod ranks;
 
+pub use moves::NONE;
 pub use moves::replace;
+pub use parts::search;
+pub use parts::starts;
+pub use parts::widen_down;
+pub use parts::widen_up;
 pub use ranks::gather;
 pub use ranks::gather_starters;
+pub use ranks::renew;
 pub use ranks::renew_starters;

@@ -1,0 +1,22 @@
+use borrow.Author.Needs.{needs}
+use Rattle.full_active.proofs.parts.starts.Statement.{statement}
+use Rattle.full_active.proofs.parts.starts.Tie as tie
+use Rattle.full_active.proofs.parts.starts.Reads as reads
+use Rattle.full_active.proofs.parts.starts.Lts as lts
+use Rattle.full_points.proofs.is_at.Reads as is-at-reads
+use Rattle.ported_pieces.proofs.piece.Reads as piece-reads
+
+-- src/parts.rt:41:9
+piece-requires : tie.Need-piece-requires
+piece-requires c κs = search needs
+
+-- src/parts.rt:43:5
+is-at-requires : tie.Need-is-at-requires
+is-at-requires c κs = search needs
+
+-- src/parts.rt:37:1
+returns : tie.Need-returns
+returns c = ?
+
+pub starts-spec : {M : Type 1} → statement M
+starts-spec = tie.close (tie.spec piece-requires is-at-requires returns)
