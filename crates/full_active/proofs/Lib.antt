@@ -1,3 +1,5 @@
--- Which file to open: Putting for pieces put in order one by one, Shifting for those that are moved along.
+-- Which file to open: Places for the block's places, Putting for pieces put in order one by one, Shifting for those that are
+-- moved along.
+pub mod Places
 pub mod Putting
 pub mod Shifting
