@@ -9,7 +9,7 @@ use Rattle.full_active.proofs.moves.shift_down.Statement.{statement}
 use Rattle.full_active.proofs.moves.shift_down.Tie as tie
 
 abbrev Inv-loop : tie.InvT-loop
-Inv-loop active₀ lanes₀ live hi to k₀ active lanes k =     (hi ≤ k) × (k ≤ live) × (length active ≡ length active₀) × (length lanes ≡ length lanes₀) × (active ≡ moved active₀ to hi k) × (lanes ≡ moved lanes₀ to hi k)
+Inv-loop active₀ lanes₀ live hi to k₀ active lanes k = (hi ≤ k) × (k ≤ live) × (length active ≡ length active₀) × (length lanes ≡ length lanes₀) × (active ≡ moved active₀ to hi k) × (lanes ≡ moved lanes₀ to hi k)
 
 abbrev μ-loop : tie.MeasureT-loop
 μ-loop active₀ lanes₀ live hi to k₀ active lanes k = live - k

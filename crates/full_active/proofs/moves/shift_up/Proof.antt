@@ -9,7 +9,7 @@ use Rattle.full_active.proofs.moves.shift_up.Statement.{statement}
 use Rattle.full_active.proofs.moves.shift_up.Tie as tie
 
 abbrev Inv-loop : tie.InvT-loop
-Inv-loop active₀ lanes₀ live hi to k₀ active lanes k =     (hi ≤ k) × (k ≤ live) × (length active ≡ length active₀) × (length lanes ≡ length lanes₀) × (active ≡ lifted active₀ to hi live k) × (lanes ≡ lifted lanes₀ to hi live k)
+Inv-loop active₀ lanes₀ live hi to k₀ active lanes k = (hi ≤ k) × (k ≤ live) × (length active ≡ length active₀) × (length lanes ≡ length lanes₀) × (active ≡ lifted active₀ to hi live k) × (lanes ≡ lifted lanes₀ to hi live k)
 
 abbrev μ-loop : tie.MeasureT-loop
 μ-loop active₀ lanes₀ live hi to k₀ active lanes k = k
@@ -72,8 +72,7 @@ returns : tie.Need-returns Inv-loop μ-loop
 returns c =
     let l = c .before in
     let s = l .before .args in
-    let over : l .loop .k ≡ s .hi = omega arith in
-    (
+    let over : l .loop .k ≡ s .hi = omega arith in (
       (rw over at (l .loop .inv .4)) ∙ up-end (s .active .now) (s .to) (s .hi) (s .live),
       (rw over at (l .loop .inv .5)) ∙ up-end (s .lanes .now) (s .to) (s .hi) (s .live),
     )

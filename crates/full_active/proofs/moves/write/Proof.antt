@@ -3,7 +3,6 @@ use borrow.Author.Needs.{needs}
 use mathlib.Core.Path.{_≡_, refl, sym, ap, ap₂, _∙_}
 use native.Mathlib.Numerals.{add-one}
 use lib.ListN.{length, getD, set, length-set, replicate, length-replicate, getD-replicate}
-
 use mathlib.Core.List.{List}
 use Prim.Native.Nat.{ℕ, _+_, _-_, _≤_}
 use native.Mathlib.Omega.{arith}
@@ -13,7 +12,7 @@ use Rattle.full_active.proofs.moves.write.Statement.{statement}
 use Rattle.full_active.proofs.moves.write.Tie as tie
 
 abbrev Inv-loop : tie.InvT-loop
-Inv-loop active₀ lanes₀ lo fresh m k₀ active lanes k =     (k ≤ m) × (length active ≡ length active₀) × (length lanes ≡ length lanes₀) × (active ≡ paste active₀ lo fresh k) × (lanes ≡ paste lanes₀ lo (replicate m noLane) k)
+Inv-loop active₀ lanes₀ lo fresh m k₀ active lanes k = (k ≤ m) × (length active ≡ length active₀) × (length lanes ≡ length lanes₀) × (active ≡ paste active₀ lo fresh k) × (lanes ≡ paste lanes₀ lo (replicate m noLane) k)
 
 abbrev μ-loop : tie.MeasureT-loop
 μ-loop active₀ lanes₀ lo fresh m k₀ active lanes k = m - k

@@ -11,13 +11,13 @@ use Rattle.full_active.proofs.parts.search.Statement.{statement}
 use Rattle.full_active.proofs.parts.search.Tie as tie
 
 abbrev Inv-loop : tie.InvT-loop
-Inv-loop table active live p lo₀ hi₀ lo hi =     (lo ≤ hi) × (hi ≤ live) × ((q : Point) → Marks p q → Between (belowIn table q) active live lo hi)
+Inv-loop table active live p lo₀ hi₀ lo hi = (lo ≤ hi) × (hi ≤ live) × ((q : Point) → Marks p q → Between (belowIn table q) active live lo hi)
 
 abbrev μ-loop : tie.MeasureT-loop
 μ-loop table active live p lo₀ hi₀ lo hi = hi - lo
 
 loop-holds : tie.Need-loop-holds Inv-loop μ-loop
-loop-holds c =     (omega arith, omega arith, λ q m. all-of-it _ _ _)
+loop-holds c = (omega arith, omega arith, λ q m. all-of-it _ _ _)
 
 sub-mid : tie.Need-sub-mid Inv-loop μ-loop
 sub-mid c = search needs
@@ -41,13 +41,12 @@ loop-again : tie.Need-loop-again Inv-loop μ-loop
 loop-again c =
     let r = c .before in
     let l = r .before .before .before in
-    let s = l .before .before .args in
-    (
+    let s = l .before .before .args in (
       omega arith,
       omega arith,
       λ q m.
-      above-half (belowIn (s .table .now) q) (s .active .now) (s .live) (l .loop .lo) (l .loop .hi) (l .loop .lo + (l .loop .hi - l .loop .lo) / 2) (l .loop .inv .2 q m)
-      (sym (r .is-below .ensures q m) ∙ c .if1 .taken),
+          above-half (belowIn (s .table .now) q) (s .active .now) (s .live) (l .loop .lo) (l .loop .hi) (l .loop .lo + (l .loop .hi - l .loop .lo) / 2) (l .loop .inv .2 q m)
+          (sym (r .is-below .ensures q m) ∙ c .if1 .taken),
     )
 
 loop-less-2 : tie.Need-loop-less-2 Inv-loop μ-loop
@@ -57,13 +56,12 @@ loop-again-2 : tie.Need-loop-again-2 Inv-loop μ-loop
 loop-again-2 c =
     let r = c .before in
     let l = r .before .before .before in
-    let s = l .before .before .args in
-    (
+    let s = l .before .before .args in (
       omega arith,
       omega arith,
       λ q m.
-      below-half (belowIn (s .table .now) q) (s .active .now) (s .live) (l .loop .lo) (l .loop .hi) (l .loop .lo + (l .loop .hi - l .loop .lo) / 2) (l .loop .inv .2 q m)
-      (sym (r .is-below .ensures q m) ∙ c .if1 .left),
+          below-half (belowIn (s .table .now) q) (s .active .now) (s .live) (l .loop .lo) (l .loop .hi) (l .loop .lo + (l .loop .hi - l .loop .lo) / 2) (l .loop .inv .2 q m)
+          (sym (r .is-below .ensures q m) ∙ c .if1 .left),
     )
 
 returns : tie.Need-returns Inv-loop μ-loop

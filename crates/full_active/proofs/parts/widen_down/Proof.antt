@@ -12,7 +12,7 @@ use Rattle.full_active.proofs.parts.widen_down.Statement.{statement}
 use Rattle.full_active.proofs.parts.widen_down.Tie as tie
 
 abbrev Inv-loop : tie.InvT-loop
-Inv-loop table active p from k₀ k =     (k ≤ from) × ((q : Point) → Marks p q → All (throughIn table q) active k from)
+Inv-loop table active p from k₀ k = (k ≤ from) × ((q : Point) → Marks p q → All (throughIn table q) active k from)
 
 abbrev μ-loop : tie.MeasureT-loop
 μ-loop table active p from k₀ k = k
@@ -41,11 +41,10 @@ loop-again : tie.Need-loop-again Inv-loop μ-loop
 loop-again c =
     let r = c .before in
     let l = r .before .before .before in
-    let s = l .before .before .args in
-    (
+    let s = l .before .before .args in (
       omega arith,
       λ q m.
-      one-below (throughIn (s .table .now) q) (s .active .now) (l .loop .k) (s .from) (omega arith) (sym (r .is-through .ensures q m) ∙ not-false _ (c .if1 .left)) (l .loop .inv .1 q m),
+          one-below (throughIn (s .table .now) q) (s .active .now) (l .loop .k) (s .from) (omega arith) (sym (r .is-through .ensures q m) ∙ not-false _ (c .if1 .left)) (l .loop .inv .1 q m),
     )
 
 returns : tie.Need-returns Inv-loop μ-loop

@@ -12,7 +12,7 @@ use Rattle.full_active.proofs.parts.widen_up.Statement.{statement}
 use Rattle.full_active.proofs.parts.widen_up.Tie as tie
 
 abbrev Inv-loop : tie.InvT-loop
-Inv-loop table active live p from k₀ k =     (from ≤ k) × (k ≤ live) × ((q : Point) → Marks p q → All (throughIn table q) active from k)
+Inv-loop table active live p from k₀ k = (from ≤ k) × (k ≤ live) × ((q : Point) → Marks p q → All (throughIn table q) active from k)
 
 abbrev μ-loop : tie.MeasureT-loop
 μ-loop table active live p from k₀ k = live - k
@@ -38,12 +38,11 @@ loop-again : tie.Need-loop-again Inv-loop μ-loop
 loop-again c =
     let r = c .before in
     let l = r .before .before .before in
-    let s = l .before .before .args in
-    (
+    let s = l .before .before .args in (
       omega arith,
       omega arith,
       λ q m.
-      one-above (throughIn (s .table .now) q) (s .active .now) (s .from) (l .loop .k) (sym (r .is-through .ensures q m) ∙ not-false _ (c .if1 .left)) (l .loop .inv .2 q m),
+          one-above (throughIn (s .table .now) q) (s .active .now) (s .from) (l .loop .k) (sym (r .is-through .ensures q m) ∙ not-false _ (c .if1 .left)) (l .loop .inv .2 q m),
     )
 
 returns : tie.Need-returns Inv-loop μ-loop
