@@ -12,6 +12,4 @@ pub use parts::starts;
 pub use parts::widen_down;
 pub use parts::widen_up;
 pub use ranks::gather;
-pub use ranks::gather_starters;
 pub use ranks::renew;
-pub use ranks::renew_starters;
