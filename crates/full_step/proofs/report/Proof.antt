@@ -22,8 +22,7 @@ list-all-requires c κs =
     let g = c .before .before .before in
     let s = c .before .before .before .before .before .before .before .before in
     let a = s .args in
-    let b = s .pre .1 in
-    (
+    let b = s .pre .1 in (
       s .pre .0,
       omega (
         arith,

@@ -1,38 +1,64 @@
+-- `full_step::turn` meets its contract: the new pieces are the block anew, and there is room for them.
 use borrow.Author.Needs.{needs}
+use mathlib.Core.Path.{_≡_, ap, _∙_}
+use mathlib.Core.List.{List, _++_}
+use Prim.Native.Nat.{ℕ, _+_, _-_, _≤_}
+use native.Mathlib.Omega.{arith}
+use lib.ListN.{length, take}
+use lib.Seq.{slice, length-slice}
+use Rattle.full_active.specs.Ranks.{goesOnIn, starters}
+use Rattle.full_step.proofs.Counts.{no-more}
 use Rattle.full_step.proofs.turn.Statement.{statement}
 use Rattle.full_step.proofs.turn.Tie as tie
-use Rattle.full_step.proofs.turn.Reads as reads
-use Rattle.full_step.proofs.turn.Lts as lts
-use Rattle.full_active.proofs.replace.Reads as replace-reads
-use Rattle.full_active.proofs.renew.Reads as renew-reads
 
--- src/lib.rt:55:51
 slice-aggregate-renew : tie.Need-slice-aggregate-renew
 slice-aggregate-renew c = search needs
 
--- src/lib.rt:55:9
 renew-requires : tie.Need-renew-requires
 renew-requires c κs = search needs
 
--- src/lib.rt:56:42
 slice-aggregate-replace : tie.Need-slice-aggregate-replace
 slice-aggregate-replace c = search needs
 
--- src/lib.rt:56:5
 replace-requires : tie.Need-replace-requires
-replace-requires c κs = ?
+replace-requires c κs =
+    let g = c .before .before .before .before in
+    let s = g .before .before .before .before .before .before in
+    let a = s .args in
+    let t = s .pre .3 in
+    let b = s .pre .2 in
+    let few : g .renew .result ≤ a .hi - a .lo + length (starters (a .ends .now)) =
+    omega (
+      arith,
+      (g .renew .ensures (s .pre .1 .point) (s .pre .1 .marks)) .count,
+      no-more (goesOnIn (a .table .now) (s .pre .1 .point)) (slice (a .lo) (a .hi) (a .active .now)) (starters (a .ends .now)),
+      length-slice (a .lo) (a .hi) (a .active .now) (b .within),
+    ) in (
+      record { inside = t .inside; within = omega (arith, t .fits); fits = omega (arith, few, t .fits, t .inside, b .ordered); alike = t .alike },
+      b .ordered,
+      omega (arith, few, b .few, b .ordered, g .renew .kept .1 .1 .1 .1 .1 .1 .0),
+    )
 
--- src/lib.rt:41:1
 same-length : tie.Need-same-length
 same-length c = search needs
 
--- src/lib.rt:41:1
 same-length-2 : tie.Need-same-length-2
 same-length-2 c = search needs
 
--- src/lib.rt:41:1
 returns : tie.Need-returns
-returns c = ?
+returns c =
+    λ q m.
+    let w = c .before .before .before .before in
+    let g = w .before .before .before .before .before in
+    let s = g .before .before .before .before .before .before in
+    let a = s .args in
+    let P = w .replace .ensures in
+    record {
+      pieces-are =
+          (rw (P .count) at (P .pieces-are))
+          ∙ ap (λ (z : List ℕ). take (a .lo) (a .active .now) ++ (z ++ slice (a .hi) (a .live) (a .active .now))) ((g .renew .ensures q m) .list);
+      lanes-are = rw (P .count) at (P .lanes-are);
+    }
 
 pub turn-spec : {M : Type 1} → statement M
 turn-spec =
