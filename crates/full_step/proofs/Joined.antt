@@ -14,14 +14,14 @@ use lib.ListN.{length, take, drop}
 use lib.Seq.{take-take, length-take-le}
 use Rattle.fractions.specs.declared.Point.{Point}
 use Rattle.line_segment.specs.Piece.{pointOf}
-use Rattle.sweep.specs.Lists.{keep, Pairwise}
+use Rattle.sweep.specs.Lists.{keep, pairs, Pairwise}
 use Rattle.sweep.specs.Chart.{Chart, same}
 use Rattle.sweep.specs.Step.{starts, finishes}
 use Rattle.sweep.specs.Geometry.{Geometry}
 use Rattle.sweep.proofs.Lists.{keep-same}
 use Rattle.sweep.proofs.Ranked.{ranked}
 use Rattle.full_steps.specs.Steps.{State, next}
-use Rattle.full_steps.specs.InPlace.{Sides, InPlaceFacts, renewed, replaced, gathered}
+use Rattle.full_steps.specs.InPlace.{Sides, InPlaceFacts, renewed, replaced, gathered, fresh, fresh-pairs}
 use Rattle.full_steps.proofs.Step.{Inv}
 use Rattle.full_steps.proofs.Placed.{lo, hi, front-is, back-is, whole-length}
 use Rattle.full_order.specs.Finer.{finer, sidesOf}
@@ -31,6 +31,8 @@ use Rattle.ported_pieces.proofs.Answers.{neither-less}
 use Rattle.full_active.specs.Parts.{finishesIn}
 use Rattle.full_active.specs.Ranks.{risesIn, goesOnIn, backwards, starters}
 use Rattle.full_active.proofs.Blocks.{block-is, gathered-is, renewed-is}
+use Rattle.full_list.specs.Listed.{freshIn}
+use Rattle.full_list.proofs.Freshness.{fresh-is}
 use Rattle.full_step.specs.Halves.{atPoint, newBlock, Turned}
 
 module _ (n : ℕ) (table : List ℤ) where
@@ -58,6 +60,13 @@ module _ (n : ℕ) (table : List ℤ) where
     at-point-is =
         ap (λ (z : List ℕ). insert-all ltb [] (z ++ starters ends)) (block-is C S G A s I p hp a live fits holds)
         ∙ gathered-is C S G A s I p hp (starters ends) once new-out new-in
+
+    -- the new pairs are those that the step lists
+    pub fresh-pairs-are : keep (freshIn table p) (pairs (atPoint first last a ends)) ≡ fresh-pairs C S (s .active) p
+    unfolding fresh-pairs
+    fresh-pairs-are =
+        ap (λ (z : List ℕ). keep (freshIn table p) (pairs z)) at-point-is
+        ∙ keep-same (freshIn table p) (fresh C p) (pairs (gathered C S (s .active) p)) (λ q m. fresh-is table p n (q .0) (q .1))
 
     pub new-block-is : newBlock table p first last a ends ≡ renewed C S (s .active) p
     new-block-is =

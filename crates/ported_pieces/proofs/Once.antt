@@ -15,6 +15,7 @@ use Rattle.ported_pieces.proofs.crossing_beyond.Reads as crossing-beyon
 use Rattle.ported_pieces.proofs.test.Reads as test
 use Rattle.ported_pieces.proofs.contains.Reads as contains
 use Rattle.ported_pieces.proofs.before.Reads as before
+use Rattle.ported_pieces.proofs.heights.slope_order.Reads as slope-order
 
 piece-one : OneResult piece.Post
 piece-one κs a x y s t p q = p ∙ sym q
@@ -57,3 +58,6 @@ contains-one κs a x y s t p q = p ∙ sym q
 
 before-one : OneResult before.Post
 before-one κs a x y s t p q = p ∙ sym q
+
+slope-order-one : OneResult slope-order.Post
+slope-order-one κs a x y s t p q = p ∙ sym q
