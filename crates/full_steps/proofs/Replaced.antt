@@ -103,7 +103,7 @@ module _ (C : Chart) (S : Sides C) (G : Geometry C) (A : InPlaceFacts C S G) (s 
   abbrev pub Through : ℕ → Type 0
   Through i = Act C key p i × R .On i p
 
-  through : (i : ℕ) → In i (goers ++ comers) → Through i
+  pub through : (i : ℕ) → In i (goers ++ comers) → Through i
   through i m =
       ⊎-elim
       (λ (h : In i goers).
@@ -133,15 +133,16 @@ module _ (C : Chart) (S : Sides C) (G : Geometry C) (A : InPlaceFacts C S G) (s 
       let r = keep-out (starts C p) (upto n) b in
       starts-apart C R (s .active) (s .last) L p here-at i j ((block-out i ((keep-out (λ i. not (finishes C p i)) (block C S (s .active) p) a) .0)) .0) (upto-out n (r .0)) (r .1))
 
-  rises-trans : (x y z : ℕ) → Through x → Through y → Through z → rises x y ≡ true → rises y z ≡ true → rises x z ≡ true
+  pub rises-trans : (x y z : ℕ) → Through x → Through y → Through z → rises x y ≡ true → rises y z ≡ true → rises x z ≡ true
   rises-trans x y z i j l e d = sym (rises-is x z i l) ∙ R .before-trans p op x y z (i .0) (j .0) (l .0) (rises-is x y i j ∙ e) (rises-is y z j l ∙ d)
+
+  pub rises-total : (x y : ℕ) → Through x → Through y → x ≢ y → rises x y ≡ false → rises y x ≡ true
+  rises-total x y i j ne e = sym (rises-is y x j i) ∙ R .before-total p op x y (i .0) (j .0) ne (rises-is x y i j ∙ e)
 
   renewed-rises : Pairwise (λ i j. rises i j ≡ true) (renewed C S (s .active) p)
   unfolding renewed
   renewed-rises =
-      sort-sorted rises Through rises-trans
-      (λ x y i j ne e. sym (rises-is y x j i) ∙ R .before-total p op x y (i .0) (j .0) ne (rises-is x y i j ∙ e))
-      (goers ++ comers) through comes-once
+      sort-sorted rises Through rises-trans rises-total (goers ++ comers) through comes-once
 
   renewed-line : Pairwise (λ i j. before p i j ≡ true) (renewed C S (s .active) p)
   renewed-line =

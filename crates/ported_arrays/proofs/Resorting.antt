@@ -15,47 +15,48 @@ use Rattle.ported_arrays.specs.Agreement.{Ordered}
 use Rattle.ported_arrays.proofs.Inserting.{insert-all-sort}
 use Rattle.ported_arrays.proofs.Order.{Up, nearer, place-up, not-after, asym}
 
+-- distinct members put in one by one are sorted, by an order that is transitive and total on them
+module _ (before : ℕ → ℕ → Bool) (Ok : ℕ → Type 0) (trans : (x y z : ℕ) → Ok x → Ok y → Ok z → before x y ≡ true → before y z ≡ true → before x z ≡ true)
+    (total : (x y : ℕ) → Ok x → Ok y → x ≢ y → before x y ≡ false → before y x ≡ true) where
+  record Ranking (done l : List ℕ) : Type 0 where
+    done-ok : (y : ℕ) → In y done → Ok y
+    ok : (y : ℕ) → In y l → Ok y
+    once : Pairwise (λ x y. x ≢ y) l
+    apart : (x y : ℕ) → In x l → In y done → x ≢ y
+    sorted : Pairwise (λ x y. before x y ≡ true) done
+
+  rank-one : (x : ℕ) (done l : List ℕ) → Ranking done (x ∷ l) → Pairwise (λ y z. before x y ≡ true → before x z ≡ true) done × Ranking (place before x done) l
+  rank-one x done l k = (
+    pairwise-map _ _ done (λ y z m h e f. trans x y z (k .ok x (here refl)) (k .done-ok y m) (k .done-ok z h) f e) (k .sorted),
+    record {
+      done-ok = λ y m. one y (place-out before x done m);
+      ok = λ y m. k .ok y (there m);
+      once = k .once .1;
+      apart = λ z y m h. two z y m (place-out before x done h);
+      sorted = place-sorted before Ok trans total x done (k .ok x (here refl)) (k .done-ok) (λ y m. k .apart x y (here refl) m) (k .sorted);
+    },
+  )
+    where
+      one : (y : ℕ) → In y (x ∷ done) → Ok y
+      one y (here e) = rw e (k .ok x (here refl))
+      one y (there m) = k .done-ok y m
+
+      two : (z y : ℕ) → In z l → In y (x ∷ done) → z ≢ y
+      two z y m (here e) d = k .once .0 z m (sym (d ∙ e))
+      two z y m (there h) d = k .apart z y (there m) h d
+
+  pub inserted-sort : (l : List ℕ) → ((y : ℕ) → In y l → Ok y) → Pairwise (λ x y. x ≢ y) l → insert-all before [] l ≡ sort before l
+  unfolding sort
+  inserted-sort l ok o =
+      insert-all-sort before Ranking rank-one [] l
+      (record { done-ok = λ y m. elim m [ ]; ok = ok; once = o; apart = λ x y m h. elim h [ ]; sorted = tt })
+
 module _ (C : Chart) (O : Ordered C) where
   open Chart C using (Point, less, n, before)
   open Ordered O using (Fit)
 
-  module _ (p : Point) (fit : Fit p) where
-    record Ranking (done l : List ℕ) : Type 0 where
-      done-below : (y : ℕ) → In y done → y < n
-      below : (y : ℕ) → In y l → y < n
-      once : Pairwise (λ x y. x ≢ y) l
-      apart : (x y : ℕ) → In x l → In y done → x ≢ y
-      sorted : Pairwise (λ x y. before p x y ≡ true) done
-
-    rank-one : (x : ℕ) (done l : List ℕ) → Ranking done (x ∷ l)
-        → Pairwise (λ y z. before p x y ≡ true → before p x z ≡ true) done × Ranking (place (before p) x done) l
-    rank-one x done l k = (
-      pairwise-map _ _ done
-          (λ y z m h e f. O .before-trans p fit x y z (k .below x (here refl)) (k .done-below y m) (k .done-below z h) f e)
-          (k .sorted),
-      record {
-        done-below = λ y m. one y (place-out (before p) x done m);
-        below = λ y m. k .below y (there m);
-        once = k .once .1;
-        apart = λ z y m h. two z y m (place-out (before p) x done h);
-        sorted = place-sorted (before p) (λ i. i < n) (λ i j h a b c. O .before-trans p fit i j h a b c) (λ i j a b. O .before-total p fit i j a b)
-            x done (k .below x (here refl)) (k .done-below) (λ y m. k .apart x y (here refl) m) (k .sorted);
-      },
-    )
-      where
-        one : (y : ℕ) → In y (x ∷ done) → y < n
-        one y (here e) = rw e (k .below x (here refl))
-        one y (there m) = k .done-below y m
-
-        two : (z y : ℕ) → In z l → In y (x ∷ done) → z ≢ y
-        two z y m (here e) d = k .once .0 z m (sym (d ∙ e))
-        two z y m (there h) d = k .apart z y (there m) h d
-
-    pub resorted : (l : List ℕ) → ((y : ℕ) → In y l → y < n) → Pairwise (λ x y. x ≢ y) l → insert-all (before p) [] l ≡ sort (before p) l
-    unfolding sort
-    resorted l b o =
-        insert-all-sort (before p) Ranking rank-one [] l
-        (record { done-below = λ y m. elim m [ ]; below = b; once = o; apart = λ x y m h. elim h [ ]; sorted = tt })
+  pub resorted : (p : Point) → Fit p → (l : List ℕ) → ((y : ℕ) → In y l → y < n) → Pairwise (λ x y. x ≢ y) l → insert-all (before p) [] l ≡ sort (before p) l
+  resorted p fit = inserted-sort (before p) (λ i. i < n) (O .before-trans p fit) (O .before-total p fit)
 
   -- things in the order of their points
   module _ (point : ℕ → Point) where

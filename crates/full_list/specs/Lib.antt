@@ -1,0 +1,2 @@
+-- What the contracts of the new mode's list cite.
+pub mod Listed

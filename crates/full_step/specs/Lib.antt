@@ -1,0 +1,2 @@
+-- What the contracts of the two halves of a step cite.
+pub mod Halves
