@@ -6,12 +6,12 @@
 
 #include "mirtalughe.h"
 
-enum { ROOM = 1 << 18, MOST = 1 << 16, PAINT = 0xA5, PIECES = 64, LIST = 5 * PIECES, LONGEST = 833 };
+enum { ROOM = 1 << 18, MOST = 1 << 16, PAINT = 0xA5 };
 
 static _Alignas(64) unsigned char stack[ROOM];
 static ucontext_t host, guest;
-static int32_t list[LIST];
-static uint8_t file[LONGEST], pairs[PIECES * (PIECES - 1)];
+static int32_t list[MIRTALUGHE_LIST_ROOM];
+static uint8_t file[MIRTALUGHE_LONGEST_FILE], pairs[MIRTALUGHE_PAIRS_ROOM(MIRTALUGHE_MOST_PIECES)];
 static int wrong;
 
 static void nothing(void) {}
@@ -22,18 +22,18 @@ static void compare_points(void) {
 
 static void orient(void) { wrong |= mirtalughe_orient(0, 0, 4, 0, 4, 4) != 1; }
 
-static void read(void) { wrong |= mirtalughe_read(file, LONGEST, list, LIST).count != PIECES; }
+static void read(void) { wrong |= mirtalughe_read(file, sizeof file, list, MIRTALUGHE_LIST_ROOM).count != MIRTALUGHE_MOST_PIECES; }
 
-static void meeting(void) { wrong |= mirtalughe_meeting(list, 10).meets != 1; }
+static void meeting(void) { wrong |= mirtalughe_meeting(list, MIRTALUGHE_TWO_PIECES).meets != MIRTALUGHE_CROSSING; }
 
-static void place(void) { wrong |= mirtalughe_place(list, 10).meets != 1; }
+static void place(void) { wrong |= mirtalughe_place(list, MIRTALUGHE_TWO_PIECES).meets != MIRTALUGHE_AT; }
 
 static void all_pairs(void) {
-    wrong |= mirtalughe_all_pairs(list, LIST, pairs, sizeof pairs).count != PIECES * (PIECES - 1) / 2;
+    wrong |= mirtalughe_all_pairs(list, MIRTALUGHE_LIST_ROOM, pairs, sizeof pairs).count != MIRTALUGHE_MOST_PAIRS;
 }
 
 static void sweep(void) {
-    wrong |= mirtalughe_sweep(list, LIST, UINT32_MAX, pairs, sizeof pairs).pairs != PIECES * (PIECES - 1) / 2;
+    wrong |= mirtalughe_sweep(list, MIRTALUGHE_LIST_ROOM, UINT32_MAX, pairs, sizeof pairs).pairs != MIRTALUGHE_MOST_PAIRS;
 }
 
 static size_t taken(void (*call)(void)) {
@@ -56,15 +56,15 @@ static uint8_t *put(uint8_t *at, int32_t v) {
     return at;
 }
 
-/* A file of 64 pieces of which every two cross; every coordinate takes three groups. */
+/* A file of the most pieces, of which every two cross; every coordinate takes three groups. */
 static void largest(void) {
     uint8_t *at = file;
-    *at++ = PIECES;
-    for (int32_t i = 0; i < PIECES; i++) {
+    *at++ = MIRTALUGHE_MOST_PIECES;
+    for (int32_t i = 0; i < MIRTALUGHE_MOST_PIECES; i++) {
         *at++ = 3;
-        at = put(put(put(put(at, -32767), 8200 + 31 * i), 32767), 16000 - 37 * i);
+        at = put(put(put(put(at, -MIRTALUGHE_LIMIT), 8200 + 31 * i), MIRTALUGHE_LIMIT), 16000 - 37 * i);
     }
-    wrong |= at != file + LONGEST;
+    wrong |= at != file + sizeof file;
 }
 
 int main(void) {

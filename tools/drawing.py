@@ -137,7 +137,7 @@ def written(attributes):
 
 
 def head(chart, listing):
-    title = chart.headings.get("title", "Interference chart")
+    title = chart.headings.get("title", "Chart")
     pairs = f"{counted(len(listing.meetings), 'pair')} of {counted(len(chart.pieces), 'piece')} listed"
     told = f"{pairs} in {counted(listing.steps, 'step')}"
     if not listing.complete:

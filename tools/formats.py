@@ -2,22 +2,32 @@
 program `chart` prints. Whatever is wrong is told with the line or byte at which it stands, and which number it is."""
 import re
 from dataclasses import dataclass, field
+from pathlib import Path
 
-MOST_PIECES = 64
-LIMIT = 32767
+HEADER = Path(__file__).resolve().parents[1] / "crates/chart_c/include/mirtalughe.h"
+
+
+def size(name):
+    """A size of the library's header."""
+    return int(re.search(rf"^#define MIRTALUGHE_{name} (\d+)", HEADER.read_text(), re.M)[1])
+
+
+MOST_PIECES = size("MOST_PIECES")
+LIMIT = size("LIMIT")
 MOST_GROUPS = 3
 NUMBERS = ("kind", "x1", "y1", "x2", "y2")
 
+# The sentences of docs/CHART.md.
 REFUSALS = {
     1: "the file ends inside a number or before one that is due",
-    2: "a third group has its high bit set, or the last of several groups is zero",
-    3: f"the count is above {MOST_PIECES}",
-    4: "a kind is outside 0 to 3",
-    5: f"a coordinate is outside -{LIMIT} to {LIMIT}",
-    6: "both ends of a piece are equal",
-    7: "there are bytes after the last piece",
-    8: "the lent room is too small",
-    9: "the list's length is not a multiple of five or, for a pair, not ten",
+    2: "the third group has its high bit set, or the last of several groups is zero",
+    3: f"count above {MOST_PIECES}",
+    4: "kind outside 0 to 3",
+    5: "coordinate out of range",
+    6: "both ends of a piece equal",
+    7: "bytes after the last piece",
+    8: "lent room too small",
+    9: "a list's length is no multiple of five or, in a pair call, is not ten",
 }
 
 

@@ -4,14 +4,12 @@
 
 #include "mirtalughe.h"
 
-enum { PIECES = 64 };
-
 int main(void) {
-    static int32_t list[5 * PIECES];
-    static uint8_t pairs[PIECES * (PIECES - 1)];
+    static int32_t list[MIRTALUGHE_LIST_ROOM];
+    static uint8_t pairs[MIRTALUGHE_PAIRS_ROOM(MIRTALUGHE_MOST_PIECES)];
     size_t n;
-    if (scanf("%zu", &n) != 1 || n > PIECES) return 1;
-    for (size_t i = 0; i < 5 * n; i++)
+    if (scanf("%zu", &n) != 1 || n > MIRTALUGHE_MOST_PIECES) return 1;
+    for (size_t i = 0; i < MIRTALUGHE_PIECE_NUMBERS * n; i++)
         if (scanf("%" SCNd32, &list[i]) != 1) return 1;
-    return mirtalughe_sweep(list, 5 * n, UINT32_MAX, pairs, sizeof pairs).number;
+    return mirtalughe_sweep(list, MIRTALUGHE_PIECE_NUMBERS * n, UINT32_MAX, pairs, sizeof pairs).number;
 }

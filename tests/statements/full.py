@@ -1,20 +1,32 @@
 #!/usr/bin/env python3
 """Tries the new mode's definitions (crate full_steps) on random degenerate charts, at every budget.
 
-usage: full.py [charts [seed]]    Prints how many charts and steps were tried and every statement that failed, then exits 1
-if any did. The statements: the points visited and the list after each step are the sought ones (SweepsAlways); the step
-done in place, from the sides on which the pieces lie of the point, leaves the same active list and the same list; the
-lanes are the crossings of the queue."""
+usage: full.py [charts [seed]]          The statements; prints how many charts and steps were tried and what failed.
+       full.py edits [charts [seed]]    For every must-fail edit of the crate, made by hand in the model below, the smallest
+                                        chart found on which a statement is false with it.
+Exits 1 if a statement failed, or where an edit fails no chart or is not known here. The statements: after each step the
+points visited, the list and the count are the sought ones, and the answer is complete (Promised, SaysComplete); the step
+done in place leaves the same active list, the same list, and the lanes of the queue (InPlace)."""
 import random
 import sys
 from collections import Counter
 from fractions import Fraction
 from importlib import import_module
 from itertools import combinations
+from pathlib import Path
 
 from chart import Chart
 
-random_chart, sought = (getattr(import_module("try"), name) for name in ("random_chart", "sought"))
+tries = import_module("try")
+random_chart, sought = tries.random_chart, tries.sought
+
+EDITS = Path(__file__).resolve().parents[2] / "crates/full_steps/must-fail"
+NAMES = (
+    "active_left_out block_by_falling_slope closing_pair_forgotten complete_by_uprights counts_twice crossings_not_queued "
+    "done_points_queued finished_pieces_in_the_block finishing_pieces_stay fresh_overlap_again idles_after_one_step "
+    "lanes_above_slip lists_in_front lists_without_test lower_outer_pair_stays outer_pair_not_examined "
+    "overlap_listed_again starters_left_out"
+).split()
 
 
 class Fine(Chart):
@@ -34,35 +46,80 @@ class Fine(Chart):
         side = 0 if s.upright else s.side(p)
         return (side > 0) - (side < 0)
 
+    def slope(self, i):
+        s = self.pieces[i]
+        return (1, 0, i) if s.upright else (0, Fraction(s.rise, s.run), i)
+
 
 def adjacent(active):
     return [(min(a, b), max(a, b)) for a, b in zip(active, active[1:])]
 
 
 class Full:
-    """The step of full_steps, specs/Steps."""
+    """specs/Steps."""
 
-    def __init__(self, chart):
-        self.chart, self.active, self.listed, self.last = chart, [], [], None
-
-    def beyond(self, p):
-        return self.last is None or self.last < p
+    def __init__(self, chart, edit=None):
+        self.chart, self.edit = chart, edit
+        self.active, self.listed, self.last, self.steps = [], [], None, 0
 
     def queue(self):
         ends = [e for s in self.chart.pieces for e in (s.min, s.max)]
-        tests = [self.chart.test(*q) for q in adjacent(self.active)]
-        return [p for p in ends + [c for kind, c in tests if kind == "crossing"] if self.beyond(p)]
+        tests = [self.chart.test(*q) for q in adjacent([] if self.edit == "crossings_not_queued" else self.active)]
+        points = ends + [c for kind, c in tests if kind == "crossing"]
+        return [p for p in points if self.last is None or self.edit == "done_points_queued" or self.last < p]
+
+    def report(self, here):
+        for pair in combinations(here, 2):
+            new = pair not in self.listed or self.edit == "overlap_listed_again"
+            if new and (self.chart.test(*pair)[0] or self.edit == "lists_without_test"):
+                self.listed = [pair] + self.listed if self.edit == "lists_in_front" else self.listed + [pair]
 
     def step(self, p):
-        chart, s = self.chart, self.chart.pieces
-        here = [i for i in range(chart.n) if p in (s[i].min, s[i].max) or i in self.active and s[i].contains(p)]
-        for pair in combinations(here, 2):
-            if pair not in self.listed and chart.test(*pair)[0]:
-                self.listed.append(pair)
-        stay = [i for i in self.active if s[i].max != p]
-        start = [i for i in range(chart.n) if s[i].min == p]
-        self.active = sorted(stay + start, key=lambda i: chart.rank(p, i))
-        self.last = p
+        chart, s, edit = self.chart, self.chart.pieces, self.edit
+        starts = [i for i in range(chart.n) if s[i].min == p]
+        finishes = [i for i in range(chart.n) if s[i].max == p]
+        inside = [i for i in self.active if s[i].contains(p) and edit != "active_left_out"]
+        self.report(sorted({*starts, *finishes, *inside}))
+        leave, enter = starts if edit == "finishing_pieces_stay" else finishes, finishes if edit == "starters_left_out" else starts
+        self.active = sorted([i for i in self.active if i not in leave] + enter, key=lambda i: chart.rank(p, i))
+        self.last, self.steps = p, self.steps + (2 if edit == "counts_twice" else 1)
+
+    def complete(self):
+        return self.edit != "complete_by_uprights" or not any(s.upright for s in self.chart.pieces)
+
+
+class InPlace:
+    """specs/InPlace: the step from the sides alone, and the lanes."""
+
+    def __init__(self, chart, edit=None):
+        self.chart, self.edit = chart, edit
+        self.active, self.listed, self.lanes = [], [], []
+
+    def joint(self, front, back, p):
+        return lanes(self.chart, front[-1:] + back[:1], p) if front and back else []
+
+    def fresh(self, pair, starters):
+        kind, _ = self.chart.test(*pair)
+        return kind == "crossing" or kind == "overlap" and (self.edit == "fresh_overlap_again" or any(i in starters for i in pair))
+
+    def step(self, p):
+        chart, s, edit = self.chart, self.chart.pieces, self.edit
+        below, block, above = ([i for i in self.active if chart.aside(p, i) == side] for side in (1, 0, -1))
+        starters = [i for i in range(chart.n) if s[i].min == p]
+        stays = edit == "finished_pieces_in_the_block"
+        renewed = [i for i in block if stays or s[i].max != p] + starters
+        renewed.sort(key=chart.slope, reverse=edit == "block_by_falling_slope")
+        self.listed += [q for q in combinations(sorted(block + starters), 2) if self.fresh(q, starters)]
+        old = self.lanes
+        upper = self.joint(renewed, above, p)
+        self.lanes = (
+            old[:len(below) if edit == "lower_outer_pair_stays" else max(len(below) - 1, 0)]
+            + self.joint(below, renewed if edit == "closing_pair_forgotten" else renewed + above, p)
+            + [None for _ in adjacent(renewed)]
+            + ([None for _ in upper] if edit == "outer_pair_not_examined" else upper)
+            + old[len(below) if edit == "lanes_above_slip" else len(below) + len(block):]
+        )
+        self.active = below + renewed + above
 
 
 def lanes(chart, active, last):
@@ -71,81 +128,77 @@ def lanes(chart, active, last):
     return [c if kind == "crossing" and last < c else None for kind, c in tests]
 
 
-class InPlace:
-    """The step done in place, from the sides alone: specs/InPlace."""
-
-    def __init__(self, chart):
-        self.chart, self.active, self.listed, self.lanes = chart, [], [], []
-
-    def outer(self, a, b, p):
-        """The crossing beyond p of two neighbours."""
-        kind, c = self.chart.test(min(a, b), max(a, b))
-        return c if kind == "crossing" and p < c else None
-
-    def step(self, p, fail):
-        chart, s = self.chart, self.chart.pieces
-        sides = [chart.aside(p, i) for i in self.active]
-        if sides != sorted(sides, reverse=True):
-            fail("G1: the side never goes back")
-        low, high = sides.count(1), len(sides) - sides.count(-1)
-        below, block, above = self.active[:low], self.active[low:high], self.active[high:]
-        starters = [i for i in range(chart.n) if s[i].min == p]
-        middle = [i for i in block if s[i].max != p] + starters
-        middle.sort(key=lambda i: (s[i].upright, 0 if s[i].upright else Fraction(s[i].rise, s[i].run), i))
-        for i, j in combinations(sorted(block + starters), 2):
-            kind, _ = chart.test(i, j)
-            if kind == "crossing" or kind == "overlap" and (i in starters or j in starters):
-                self.listed.append((i, j))
-        left, right = self.lanes[:max(low - 1, 0)], self.lanes[high:]
-        ends = below[-1:] + middle[:1], middle[-1:] + above[:1]
-        if middle:
-            joints = [self.outer(*ends[0], p)] if below else []
-            joints += [None] * (len(middle) - 1)
-            joints += [self.outer(*ends[1], p)] if above else []
-        else:
-            joints = [self.outer(below[-1], above[0], p)] if below and above else []
-        self.active, self.lanes = below + middle + above, left + joints + right
+def try_full(chart, edit=None):
+    """The names of the statements that fail first, and the steps done."""
+    points, run, place = chart.points(), Full(chart, edit), InPlace(chart, edit)
+    for steps in range(len(points) + 1):
+        done, queue = points[:steps], run.queue()
+        told = {
+            "visits": run.last == (done[-1] if done else None) and (min(queue) if queue else None) == next(iter(points[steps:]), None),
+            "lists": run.listed == sought(chart, done),
+            "steps": run.steps == steps,
+            "complete": run.complete(),
+            "in place": place.active == run.active,
+            "listing without marks": place.listed == run.listed,
+            "lanes": place.lanes == (lanes(chart, run.active, run.last) if steps else []),
+        }
+        failed = [name for name, holds in told.items() if not holds]
+        if failed or not queue:
+            return failed, steps
+        if edit == "idles_after_one_step" and steps:
+            run = Full(chart, edit)
+        run.step(min(queue))
+        place.step(min(queue))
+    return [], len(points)
 
 
-def try_full(chart, fail):
-    points, run, place = chart.points(), Full(chart), InPlace(chart)
-    want, steps = [], 0
-    while True:
-        queue = run.queue()
-        if not queue:
-            break
-        p = min(queue)
-        if steps >= len(points) or p != points[steps]:
-            fail("visits")
-            return steps
-        run.step(p)
-        place.step(p, fail)
-        want, steps = want + sought(chart, [p]), steps + 1
-        if run.listed != want:
-            fail("lists")
-        if place.active != run.active:
-            fail("in place")
-        if place.listed != run.listed:
-            fail("listing without marks")
-        if place.lanes != lanes(chart, run.active, p):
-            fail("lanes")
-    if steps != len(points):
-        fail("visits all")
-    if set(run.listed) != {q for q in chart.pairs if chart.test(*q)[0]}:
-        fail("lists all")
-    return steps
+def size(chart):
+    return chart.n, sum(abs(v) for s in chart.pieces for v in s.min + s.max)
 
 
-def main():
-    charts = int(sys.argv[1]) if len(sys.argv) > 1 else 20_000
-    rnd = random.Random(int(sys.argv[2]) if len(sys.argv) > 2 else 1)
-    failed, steps = Counter(), 0
+def smallest(edit, charts, seed):
+    rnd, found = random.Random(seed), None
     for _ in range(charts):
-        steps += try_full(Fine(random_chart(rnd).pieces), lambda name: failed.update([name]))
+        chart = Fine(random_chart(rnd).pieces)
+        if found and size(chart) >= size(found[0]):
+            continue
+        failed, steps = try_full(chart, edit)
+        if failed:
+            found = chart, failed, steps
+    return found
+
+
+def try_edits(charts, seed):
+    wrong = sorted(p.stem for p in EDITS.glob("*.edit")) != sorted(NAMES)
+    for edit in NAMES:
+        found = smallest(edit, charts, seed)
+        wrong = wrong or found is None
+        told = "no chart fails"
+        if found:
+            pieces = " ".join(f"{s.min}-{s.max}:{s.min_in + 2 * s.max_in}" for s in found[0].pieces)
+            told = f"{', '.join(found[1])} after {found[2]} steps on {pieces}"
+        print(f"{edit}: {told}")
+    return wrong
+
+
+def try_statements(charts, seed):
+    rnd, failed, steps = random.Random(seed), Counter(), 0
+    for _ in range(charts):
+        names, done = try_full(Fine(random_chart(rnd).pieces))
+        failed.update(names)
+        steps += done
     print(f"{charts} charts, {steps} steps")
     for name, times in failed.items():
         print(f"failed {times} times: {name}")
-    sys.exit(1 if failed else 0)
+    return bool(failed)
+
+
+def main():
+    words = sys.argv[1:]
+    edits = words[:1] == ["edits"]
+    numbers = [int(w) for w in words[edits:]]
+    charts, seed = (numbers + [20_000, 1][len(numbers):])[:2]
+    sys.exit(1 if (try_edits if edits else try_statements)(charts, seed) else 0)
 
 
 if __name__ == "__main__":

@@ -102,6 +102,10 @@ def try_orders(f, points, say):
                 say("below-first", f.before(p, i, j))
             if f.piece[i].on(p) and f.aside(p, j) < 0:
                 say("above-last", f.before(p, i, j))
+            kind, c = f.chart.test(i, j)
+            if kind == "crossing" and p < c and f.before(p, i, j):
+                a, b = f.piece[i], f.piece[j]
+                say("ahead-steeper", a.rise * b.run > b.rise * a.run)
         for i, j, k in permutations(here, 3):
             if f.before(p, i, j) and f.before(p, j, k):
                 say("before-trans", f.before(p, i, k))

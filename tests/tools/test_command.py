@@ -66,7 +66,7 @@ class Command(unittest.TestCase):
             self.assertIn(f"standard input, line 1: 3 pieces, but {text} has 2", said)
             status, _, said = run("draw", text, given=b"refused 6\n")
             self.assertEqual(status, 1)
-            self.assertIn("refused with 6: both ends of a piece are equal", said)
+            self.assertIn("refused with 6: both ends of a piece equal", said)
 
 
 if __name__ == "__main__":

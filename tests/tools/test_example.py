@@ -24,7 +24,7 @@ class BoosterFan(unittest.TestCase):
         """A piece of a line begins where the one before it ends, only one holds the joint, and they do not meet."""
         pieces, listed = self.chart.pieces, {m.pair for m in self.listing.meetings}
         joints = [i for i in range(len(pieces) - 1) if pieces[i].name == pieces[i + 1].name]
-        self.assertEqual(len(joints), 5)
+        self.assertEqual(len(joints), 7)
         for i in joints:
             before, after = pieces[i].ends()[1], pieces[i + 1].ends()[0]
             self.assertEqual((*before[:2], not before[2]), after)

@@ -1,5 +1,6 @@
 """The readable text, the chart file and the listing: round trips, limits on both sides, and whatever may be damaged."""
 import random
+import re
 import unittest
 from pathlib import Path
 
@@ -7,6 +8,7 @@ from formats import LIMIT, MOST_PIECES, Chart, Meeting, Piece, Refused, Wrong
 from formats import chart_of_file, chart_of_text, file_of_chart, listing_of_text, text_of_chart
 
 ROOT = Path(__file__).parents[2]
+REPLAY = ROOT / "crates/replay"
 SCOPES_TEXT = b"3 0 0 4 4\n3 0 4 4 0\n"
 SCOPES_FILE = bytes.fromhex("02 03 00 00 08 08 03 00 08 08 00")
 
@@ -21,10 +23,20 @@ def random_chart(seed):
     return Chart(pieces)
 
 
-def recorded(name, file):
-    """Recorded answers stand beside the program that replays them or, where none does, in tests/recorded."""
-    replayed = ROOT / "crates" / f"replay_{name}"
-    return (replayed if replayed.is_dir() else ROOT / "tests/recorded" / name) / file
+def recorded(letter):
+    """The files of the recorded questions under a letter (tests/recorded/README.md)."""
+    data, at, files = (REPLAY / "stdin").read_bytes(), 0, []
+    while at < len(data):
+        end = at + 3 + int.from_bytes(data[at + 1 : at + 3], "little")
+        if data[at] == ord(letter):
+            files.append(data[at + 3 : end])
+        at = end
+    return files
+
+
+def answers():
+    """What the Rust says to all recorded questions: readings first, a line each, and listings last."""
+    return (REPLAY / "stdout").read_text()
 
 
 def told(form, data):
@@ -50,8 +62,9 @@ class Text(unittest.TestCase):
         self.assertEqual(chart_of_text(b"").pieces, [])
 
     def test_count(self):
-        self.assertEqual(len(chart_of_text(b"3 0 0 1 1\n" * 64).pieces), 64)
-        self.assertIn("line 66: piece 64 is one too many", told(chart_of_text, b"#\n" + b"3 0 0 1 1\n" * 65))
+        self.assertEqual(len(chart_of_text(b"3 0 0 1 1\n" * MOST_PIECES).pieces), MOST_PIECES)
+        said = told(chart_of_text, b"#\n" + b"3 0 0 1 1\n" * (MOST_PIECES + 1))
+        self.assertIn(f"line {MOST_PIECES + 2}: piece {MOST_PIECES} is one too many", said)
 
     def test_coordinates(self):
         for at, meaning in enumerate(("x1", "y1", "x2", "y2"), 1):
@@ -103,7 +116,7 @@ class File(unittest.TestCase):
 
     def test_longest(self):
         chart = Chart([Piece(3, LIMIT, LIMIT, -LIMIT, LIMIT)] * MOST_PIECES)
-        self.assertEqual(len(file_of_chart(chart)), 833)
+        self.assertEqual(len(file_of_chart(chart)), 1 + 13 * MOST_PIECES)
 
     def test_round_trips(self):
         for seed in range(300):
@@ -129,26 +142,22 @@ class File(unittest.TestCase):
 
     def test_recorded_answers(self):
         """Every file of the recorded readings gets its recorded numbers, or its refusal and place."""
-        given = recorded("file", "stdin").read_bytes()
-        answers = recorded("file", "stdout").read_text().splitlines()
-        at, seen = 0, set()
-        for answer in answers:
-            size = int.from_bytes(given[at : at + 2], "little")
-            data, at = given[at + 2 : at + 2 + size], at + 2 + size
+        files, seen = recorded("r"), set()
+        for data, answer in zip(files, answers().splitlines()):
             self.assertEqual(reading(data), answer, data.hex(" "))
             seen.add(answer.split()[1] if answer.startswith("refused") else "read")
-        self.assertEqual(at, len(given))
+        self.assertGreater(len(files), 100)
         self.assertEqual(seen, {"read", *"1234567"})
 
     def test_what_is_told(self):
         for data, said in (
             ("", "byte 0: the count is due (refused 1: "),
-            ("41", "byte 0: the count is 65 (refused 3: the count is above 64)"),
+            ("41", "byte 0: the count is 65 (refused 3: count above 64)"),
             ("01 03 02", "byte 3: y1 of piece 0 is due (refused 1: "),
             ("01 03 02 80", "byte 3: y1 of piece 0 is cut (refused 1: "),
             ("01 03 80 00", "byte 2: x1 of piece 0 has a group too many (refused 2: "),
             ("01 03 80 80 80", "byte 2: x1 of piece 0 does not end (refused 2: "),
-            ("01 04", "byte 1: the kind of piece 0 is 4 (refused 4: a kind is outside 0 to 3)"),
+            ("01 04", "byte 1: the kind of piece 0 is 4 (refused 4: kind outside 0 to 3)"),
             ("01 03 80 80 04", "byte 2: x1 of piece 0 is 32768 (refused 5: "),
             ("01 03 FF FF 03", "byte 2: x1 of piece 0 is -32768 (refused 5: "),
             ("01 03 02 04 02 04", "byte 1: both ends of piece 0 are 1 2 (refused 6: "),
@@ -181,15 +190,15 @@ class Listings(unittest.TestCase):
 
     def test_recorded_answers(self):
         """Every listing of the recorded ones is read, and written out again it is the same."""
-        text = recorded("chart", "stdout").read_text()
-        listings = ["chart" + rest for rest in text.split("chart")[1:]]
+        listings = re.split(r"(?m)^(?=chart \d+$)", answers())[1:]
+        self.assertEqual(len(listings), len(recorded("l")))
         self.assertGreater(len(listings), 100)
         for given in listings:
             self.assertEqual(rewritten(listing_of_text(given.encode())), given)
 
     def test_refused(self):
         said = told(listing_of_text, b"refused 3\n")
-        self.assertEqual(said, "line 1: the chart was refused with 3: the count is above 64")
+        self.assertEqual(said, "line 1: the chart was refused with 3: count above 64")
 
     def test_damaged(self):
         sound = b"chart 3\ncomplete yes\npair 0 1 at 2 2\nsteps 5\n"

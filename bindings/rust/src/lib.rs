@@ -1,7 +1,7 @@
-//! Which pieces of an interference chart meet, and where: the proved calls of libchart_c.a, made safe.
+//! Which pieces of a chart meet, and where: the proved calls of libchart_c.a, made safe.
 //!
 //! A chart is a list of numbers, five a piece: kind, x1, y1, x2, y2. Kind 0 to 3: add 1 if the first end is included, 2
-//! if the second is. Coordinates run from -32,767 to 32,767, and a chart has at most 64 pieces.
+//! if the second is. Coordinates run from -[`LIMIT`] to [`LIMIT`], and a chart has at most [`MOST_PIECES`] pieces.
 //!
 //! ```
 //! use mirtalughe::{Place, PlacePoint, place, sweep};
@@ -23,14 +23,39 @@ use std::cmp::Ordering;
 
 pub use refusal::{Fault, Given, Refusal};
 
-/// The most pieces of a chart.
-pub const MOST_PIECES: usize = 64;
+/// The number that a size of the header is.
+const fn number(digits: &str) -> usize {
+  let (mut value, mut at) = (0, 0);
+  while at < digits.len() {
+    value = 10 * value + (digits.as_bytes()[at] - b'0') as usize;
+    at += 1;
+  }
+  value
+}
 
-/// How many numbers are lent to [`read`] at least.
-pub const LIST_ROOM: usize = 5 * MOST_PIECES;
+/// The most pieces of a chart.
+pub const MOST_PIECES: usize = number(env!("MIRTALUGHE_MOST_PIECES"));
+
+/// Coordinates run from -LIMIT to LIMIT.
+pub const LIMIT: i32 = number(env!("MIRTALUGHE_LIMIT")) as i32;
 
 /// kind, x1, y1, x2, y2
-pub type Piece = [i32; 5];
+pub const PIECE_NUMBERS: usize = number(env!("MIRTALUGHE_PIECE_NUMBERS"));
+
+/// How many numbers are lent to [`read`] at least.
+pub const LIST_ROOM: usize = PIECE_NUMBERS * MOST_PIECES;
+
+/// The bytes of the longest chart file.
+pub const LONGEST_FILE: usize = 1 + 13 * MOST_PIECES;
+
+/// The most pairs of a chart.
+pub const MOST_PAIRS: usize = pairs_room(MOST_PIECES) / 2;
+
+/// No sweep takes more steps.
+pub const MOST_STEPS: usize = 2 * MOST_PIECES + MOST_PAIRS;
+
+/// kind, x1, y1, x2, y2
+pub type Piece = [i32; PIECE_NUMBERS];
 
 /// The numbers of two pieces.
 pub type Pair = [u8; 2];

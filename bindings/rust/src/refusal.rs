@@ -1,4 +1,4 @@
-//! The table of refusals.
+//! The table of refusals of docs/CHART.md.
 
 use std::error::Error;
 use std::fmt;
@@ -7,28 +7,28 @@ use std::fmt;
 #[derive(Clone, Copy, PartialEq, Eq, Debug)]
 #[repr(u8)]
 pub enum Fault {
-  FileCut = 1,
-  GroupsWrong = 2,
-  TooManyPieces = 3,
-  KindOutside = 4,
-  CoordinateOutside = 5,
+  FileEnds = 1,
+  Groups = 2,
+  Count = 3,
+  Kind = 4,
+  Coordinate = 5,
   NoLength = 6,
-  BytesLeft = 7,
-  RoomTooSmall = 8,
-  LengthWrong = 9,
+  ExtraBytes = 7,
+  Room = 8,
+  ListLength = 9,
 }
 
 impl Fault {
   pub const ALL: [Fault; 9] = [
-    Fault::FileCut,
-    Fault::GroupsWrong,
-    Fault::TooManyPieces,
-    Fault::KindOutside,
-    Fault::CoordinateOutside,
+    Fault::FileEnds,
+    Fault::Groups,
+    Fault::Count,
+    Fault::Kind,
+    Fault::Coordinate,
     Fault::NoLength,
-    Fault::BytesLeft,
-    Fault::RoomTooSmall,
-    Fault::LengthWrong,
+    Fault::ExtraBytes,
+    Fault::Room,
+    Fault::ListLength,
   ];
 
   pub const fn number(self) -> u8 {
@@ -37,15 +37,15 @@ impl Fault {
 
   pub const fn meaning(self) -> &'static str {
     match self {
-      Fault::FileCut => "the file ends inside a number or before one that is due",
-      Fault::GroupsWrong => "a third group has its high bit set, or the last of several is zero",
-      Fault::TooManyPieces => "the count of pieces is above 64",
-      Fault::KindOutside => "a kind is outside 0 to 3",
-      Fault::CoordinateOutside => "a coordinate is outside -32767 to 32767",
-      Fault::NoLength => "both ends of a piece are equal",
-      Fault::BytesLeft => "there are bytes after the last piece",
-      Fault::RoomTooSmall => "the lent room is too small",
-      Fault::LengthWrong => "the list's length is not a multiple of five or, for a pair, not ten",
+      Fault::FileEnds => "the file ends inside a number or before one that is due",
+      Fault::Groups => "the third group has its high bit set, or the last of several groups is zero",
+      Fault::Count => concat!("count above ", env!("MIRTALUGHE_MOST_PIECES")),
+      Fault::Kind => "kind outside 0 to 3",
+      Fault::Coordinate => "coordinate out of range",
+      Fault::NoLength => "both ends of a piece equal",
+      Fault::ExtraBytes => "bytes after the last piece",
+      Fault::Room => "lent room too small",
+      Fault::ListLength => "a list's length is no multiple of five or, in a pair call, is not ten",
     }
   }
 }
@@ -70,9 +70,9 @@ impl fmt::Display for Refusal {
   fn fmt(&self, f: &mut fmt::Formatter) -> fmt::Result {
     write!(f, "refused {}: {}", self.fault.number(), self.fault.meaning())?;
     match (self.given, self.fault) {
-      (_, Fault::RoomTooSmall) => Ok(()),
+      (_, Fault::Room) => Ok(()),
       (Given::File, _) => write!(f, ", at byte {}", self.place),
-      (Given::List, Fault::KindOutside | Fault::CoordinateOutside | Fault::NoLength) => {
+      (Given::List, Fault::Kind | Fault::Coordinate | Fault::NoLength) => {
         write!(f, ", in piece {}", self.place)
       }
       (Given::List, _) => Ok(()),

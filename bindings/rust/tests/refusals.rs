@@ -3,38 +3,40 @@
 use mirtalughe::*;
 
 const SOUND: Piece = [3, 0, 0, 4, 4];
-const LENGTH: &str = "refused 9: the list's length is not a multiple of five or, for a pair, not ten";
-const ROOM: &str = "refused 8: the lent room is too small";
+const LENGTH: &str = "refused 9: a list's length is no multiple of five or, in a pair call, is not ten";
+const ROOM: &str = "refused 8: lent room too small";
 
 #[test]
 fn files() {
   let cut = "refused 1: the file ends inside a number or before one that is due, at byte";
-  let groups = "refused 2: a third group has its high bit set, or the last of several is zero, at byte";
-  let coordinate = "refused 5: a coordinate is outside -32767 to 32767, at byte";
+  let groups =
+    "refused 2: the third group has its high bit set, or the last of several groups is zero, at byte";
+  let coordinate = "refused 5: coordinate out of range, at byte";
+  let many = format!("refused 3: count above {MOST_PIECES}");
   let wrong: [(&[u8], Fault, usize, String); 12] = [
-    (&[], Fault::FileCut, 0, format!("{cut} 0")),
-    (&[1, 3, 0], Fault::FileCut, 3, format!("{cut} 3")),
-    (&[1, 3, 0, 0x80], Fault::FileCut, 3, format!("{cut} 3")),
-    (&[1, 3, 0x80, 0], Fault::GroupsWrong, 2, format!("{groups} 2")),
-    (&[1, 3, 0, 0x80, 0x80, 0x80], Fault::GroupsWrong, 3, format!("{groups} 3")),
-    (&[65], Fault::TooManyPieces, 0, "refused 3: the count of pieces is above 64, at byte 0".into()),
-    (&[1, 4], Fault::KindOutside, 1, "refused 4: a kind is outside 0 to 3, at byte 1".into()),
-    (&[1, 3, 0xFF, 0xFF, 3], Fault::CoordinateOutside, 2, format!("{coordinate} 2")),
-    (&[1, 3, 0, 0, 0, 0x80, 0x80, 4], Fault::CoordinateOutside, 5, format!("{coordinate} 5")),
-    (&[1, 3, 2, 4, 2, 4], Fault::NoLength, 1, "refused 6: both ends of a piece are equal, at byte 1".into()),
-    (&[0, 0], Fault::BytesLeft, 1, "refused 7: there are bytes after the last piece, at byte 1".into()),
+    (&[], Fault::FileEnds, 0, format!("{cut} 0")),
+    (&[1, 3, 0], Fault::FileEnds, 3, format!("{cut} 3")),
+    (&[1, 3, 0, 0x80], Fault::FileEnds, 3, format!("{cut} 3")),
+    (&[1, 3, 0x80, 0], Fault::Groups, 2, format!("{groups} 2")),
+    (&[1, 3, 0, 0x80, 0x80, 0x80], Fault::Groups, 3, format!("{groups} 3")),
+    (&[MOST_PIECES as u8 + 1], Fault::Count, 0, format!("{many}, at byte 0")),
+    (&[1, 4], Fault::Kind, 1, "refused 4: kind outside 0 to 3, at byte 1".into()),
+    (&[1, 3, 0xFF, 0xFF, 3], Fault::Coordinate, 2, format!("{coordinate} 2")),
+    (&[1, 3, 0, 0, 0, 0x80, 0x80, 4], Fault::Coordinate, 5, format!("{coordinate} 5")),
+    (&[1, 3, 2, 4, 2, 4], Fault::NoLength, 1, "refused 6: both ends of a piece equal, at byte 1".into()),
+    (&[0, 0], Fault::ExtraBytes, 1, "refused 7: bytes after the last piece, at byte 1".into()),
     (
       &[1, 3, 0, 0, 2, 2, 9, 9],
-      Fault::BytesLeft,
+      Fault::ExtraBytes,
       6,
-      "refused 7: there are bytes after the last piece, at byte 6".into(),
+      "refused 7: bytes after the last piece, at byte 6".into(),
     ),
   ];
   for (file, fault, place, told) in wrong {
     refused_file(file, LIST_ROOM, fault, place, &told);
   }
   for room in [0, LIST_ROOM - 1] {
-    refused_file(&[0], room, Fault::RoomTooSmall, 0, ROOM);
+    refused_file(&[0], room, Fault::Room, 0, ROOM);
   }
 }
 
@@ -49,22 +51,22 @@ fn refused_file(file: &[u8], room: usize, fault: Fault, place: usize, told: &str
 /// Lists that every call on a list refuses, the fault in the second of two pieces.
 fn wrong_lists() -> Vec<(Vec<i32>, Fault, usize, &'static str)> {
   let with = |piece: Piece| [SOUND, piece].concat();
-  let kind = "refused 4: a kind is outside 0 to 3, in piece 1";
-  let coordinate = "refused 5: a coordinate is outside -32767 to 32767, in piece 1";
-  let equal = "refused 6: both ends of a piece are equal, in piece 1";
+  let kind = "refused 4: kind outside 0 to 3, in piece 1";
+  let coordinate = "refused 5: coordinate out of range, in piece 1";
+  let equal = "refused 6: both ends of a piece equal, in piece 1";
   vec![
-    (with([4, 0, 0, 1, 1]), Fault::KindOutside, 1, kind),
-    (with([-1, 0, 0, 1, 1]), Fault::KindOutside, 1, kind),
-    (with([3, 32_768, 0, 1, 1]), Fault::CoordinateOutside, 1, coordinate),
-    (with([3, 0, 0, 1, -32_768]), Fault::CoordinateOutside, 1, coordinate),
+    (with([4, 0, 0, 1, 1]), Fault::Kind, 1, kind),
+    (with([-1, 0, 0, 1, 1]), Fault::Kind, 1, kind),
+    (with([3, LIMIT + 1, 0, 1, 1]), Fault::Coordinate, 1, coordinate),
+    (with([3, 0, 0, 1, -LIMIT - 1]), Fault::Coordinate, 1, coordinate),
     (with([3, 5, 6, 5, 6]), Fault::NoLength, 1, equal),
-    (with(SOUND)[..9].to_vec(), Fault::LengthWrong, 0, LENGTH),
+    (with(SOUND)[..9].to_vec(), Fault::ListLength, 0, LENGTH),
   ]
 }
 
 #[test]
 fn two_pieces() {
-  let lengths = [0, 1, 3].map(|count| ([SOUND; 3][..count].concat(), Fault::LengthWrong, 0, LENGTH));
+  let lengths = [0, 1, 3].map(|count| ([SOUND; 3][..count].concat(), Fault::ListLength, 0, LENGTH));
   for (list, fault, place, told) in wrong_lists().into_iter().chain(lengths) {
     let refused = meeting(&list).unwrap_err();
     assert_eq!(refused, Refusal { fault, place, given: Given::List }, "{list:?}");
@@ -78,10 +80,10 @@ fn lists() {
   for (list, fault, place, told) in wrong_lists() {
     refused_list(&list, 2, fault, place, told);
   }
-  let many = "refused 3: the count of pieces is above 64";
-  refused_list(&[SOUND; 65].concat(), pairs_room(65), Fault::TooManyPieces, 0, many);
-  for (count, room) in [(64, pairs_room(64) - 1), (2, 1), (2, 0)] {
-    refused_list(&[SOUND; 64][..count].concat(), room, Fault::RoomTooSmall, 0, ROOM);
+  let many = format!("refused 3: count above {MOST_PIECES}");
+  refused_list(&[SOUND; MOST_PIECES + 1].concat(), pairs_room(MOST_PIECES + 1), Fault::Count, 0, &many);
+  for (count, room) in [(MOST_PIECES, pairs_room(MOST_PIECES) - 1), (2, 1), (2, 0)] {
+    refused_list(&[SOUND; MOST_PIECES][..count].concat(), room, Fault::Room, 0, ROOM);
   }
 }
 

@@ -1,4 +1,22 @@
-/* The calls of the library libchart_c.a. */
+/* The calls of the library libchart_c.a, and its manual. docs/CHART.md has the rules in full; each call keeps them for
+   every input, which is proved.
+
+   A chart is a list of int32_t, five numbers a piece: kind, x1, y1, x2, y2. Pieces are numbered from 0. Kind 0 to 3:
+   add 1 if the first end is included, 2 if the second is. Points are ordered by x, then y; the lesser end of a piece
+   is its min, the other its max. A piece is upright when both its x are equal.
+
+   Lengths.     `size` counts bytes. `length`, and the `lent` beside an int32_t *, count numbers and not bytes; the
+                `lent` beside a uint8_t * counts bytes. A `count` or `pairs` that is returned counts pieces or pairs.
+   Pointers.    Each is good for the length beside it, aligned as its type. NULL is allowed where that length is 0.
+   Overlap.     What is lent (the pointers without const) overlaps nothing else that the call is given, and nobody else
+                reads or writes it during the call. What is const nobody writes during the call; it may be one list in
+                several calls at once.
+   Threads.     A call keeps nothing after it returns and has no state, so that any number may run at once.
+   Memory.      Nothing is allocated. A call takes at most 10 KiB of stack, as measured (tests/stack.c).
+   Refusals.    Whatever it is given, a call returns. A refusal has `number` other than MIRTALUGHE_DONE and a `place`;
+                every other field is zero or false, and lent memory keeps its content.
+   -32,768.     It is no coordinate of a chart. A list or a file that has it is refused with MIRTALUGHE_COORDINATE. Only
+                mirtalughe_orient, which takes plain points, takes it, and answers of it as of any other. */
 #ifndef MIRTALUGHE_H
 #define MIRTALUGHE_H
 
@@ -10,21 +28,83 @@
 extern "C" {
 #endif
 
-/* A number of the table of refusals, 0 where the call is done; its place; and the count of pieces
-   read or pairs listed. A refusal has count 0 and leaves lent memory as it is. */
+/* ---- version: of what this header says. MAJOR grows where a program that was right may have to change. */
+#define MIRTALUGHE_VERSION_MAJOR 0
+#define MIRTALUGHE_VERSION_MINOR 1
+#define MIRTALUGHE_VERSION_PATCH 0
+#define MIRTALUGHE_VERSION "0.1.0"
+
+/* ---- sizes */
+#define MIRTALUGHE_MOST_PIECES 64 /* of a chart */
+#define MIRTALUGHE_LIMIT 32767 /* coordinates run from -MIRTALUGHE_LIMIT to MIRTALUGHE_LIMIT */
+#define MIRTALUGHE_PIECE_NUMBERS 5 /* kind, x1, y1, x2, y2 */
+#define MIRTALUGHE_TWO_PIECES (2 * MIRTALUGHE_PIECE_NUMBERS) /* numbers that a call on two pieces takes */
+
+/* Numbers to lend to mirtalughe_read, whatever the file: those of the largest chart. */
+#define MIRTALUGHE_LIST_ROOM (MIRTALUGHE_PIECE_NUMBERS * MIRTALUGHE_MOST_PIECES)
+
+/* Bytes of the longest chart file: the count, and of each piece its kind and four coordinates of three bytes. */
+#define MIRTALUGHE_LONGEST_FILE (1 + 13 * MIRTALUGHE_MOST_PIECES)
+
+/* Bytes to lend for the pairs of n pieces, two a pair; n is evaluated twice. */
+#define MIRTALUGHE_PAIRS_ROOM(n) ((n) * ((n)-1))
+#define MIRTALUGHE_MOST_PAIRS (MIRTALUGHE_PAIRS_ROOM(MIRTALUGHE_MOST_PIECES) / 2)
+
+/* No sweep of the library takes more steps; UINT32_MAX as a budget is enough for all. */
+#define MIRTALUGHE_MOST_STEPS (2 * MIRTALUGHE_MOST_PIECES + MIRTALUGHE_MOST_PAIRS)
+
+/* ---- refusals: what `number` is. A file is looked at for ROOM first and then in reading order, EXTRA_BYTES last; a
+   list for LIST_LENGTH, COUNT, then piece by piece for KIND, COORDINATE and NO_LENGTH, then for ROOM. The first fault
+   is told. */
+typedef enum {
+    /* done. Place: 0. */
+    MIRTALUGHE_DONE = 0,
+    /* the file ends inside a number or before one that is due. Place in a file: where the number starts. */
+    MIRTALUGHE_FILE_ENDS = 1,
+    /* the third group has its high bit set, or the last of several groups is zero. Place in a file: where the number
+       starts. */
+    MIRTALUGHE_GROUPS = 2,
+    /* count above MIRTALUGHE_MOST_PIECES. Place in a file: where the number starts; in a list: 0. */
+    MIRTALUGHE_COUNT = 3,
+    /* kind outside 0 to 3. Place in a file: where the number starts; in a list: number of the piece. */
+    MIRTALUGHE_KIND = 4,
+    /* coordinate out of range. Place in a file: where the number starts; in a list: number of the piece. */
+    MIRTALUGHE_COORDINATE = 5,
+    /* both ends of a piece equal. Place in a file: where the kind starts; in a list: number of the piece. */
+    MIRTALUGHE_NO_LENGTH = 6,
+    /* bytes after the last piece. Place in a file: the first extra byte. */
+    MIRTALUGHE_EXTRA_BYTES = 7,
+    /* lent room too small. Place: 0. */
+    MIRTALUGHE_ROOM = 8,
+    /* a list's length is no multiple of five or, in a pair call, is not ten. Place in a list: 0. */
+    MIRTALUGHE_LIST_LENGTH = 9
+} mirtalughe_refusal;
+
+/* ---- answers. `number` is one of mirtalughe_refusal, and `place` a byte of the file or the number of a piece. */
+
+/* `count` pieces read, or pairs listed. */
 typedef struct {
     uint8_t number;
     size_t place;
     size_t count;
 } mirtalughe_answer;
 
+/* What `meets` is: of mirtalughe_meeting NOTHING, CROSSING or OVERLAP, of mirtalughe_place NOTHING, AT or ALONG. */
+typedef enum {
+    MIRTALUGHE_NOTHING = 0, /* no point lies on both pieces */
+    MIRTALUGHE_CROSSING = 1, /* the two lines have one common point, and it lies on both pieces */
+    MIRTALUGHE_OVERLAP = 2, /* both pieces lie on one line and share a stretch of it, or one point of it */
+    MIRTALUGHE_AT = 1, /* a crossing's point */
+    MIRTALUGHE_ALONG = 2 /* an overlap's stretch, from its min to its max */
+} mirtalughe_meets;
+
 typedef struct {
     int16_t x, y;
     bool included;
 } mirtalughe_end;
 
-/* How two pieces meet. `meets` is 0 for nothing, 1 for a crossing, 2 for an overlap: then `min` and
-   `max` are the ends of the common stretch. Else they are zero. */
+/* How two pieces meet. Where `meets` is MIRTALUGHE_OVERLAP, `min` and `max` are the ends of the common stretch, each
+   with its mark; where the two share one point only, both are that point, included. Else they are zero and false. */
 typedef struct {
     uint8_t number;
     size_t place;
@@ -32,8 +112,8 @@ typedef struct {
     mirtalughe_end min, max;
 } mirtalughe_met;
 
-/* Where two pieces meet, each value the double nearest to the exact one. `meets` is 0 for nothing, 1
-   for at x1, y1, 2 for along from x1, y1 to x2, y2. Values that are not in use are zero. */
+/* Where two pieces meet: MIRTALUGHE_AT x1, y1, or MIRTALUGHE_ALONG from x1, y1 to x2, y2, the two equal where the
+   pieces share one point only. Values that are not in use are zero. */
 typedef struct {
     uint8_t number;
     size_t place;
@@ -41,8 +121,10 @@ typedef struct {
     double x1, y1, x2, y2;
 } mirtalughe_placed;
 
-/* What a sweep says: the count of pairs listed, the steps done, whether the queue is empty, whether no piece
-   is upright, and, where `visited`, the last point x/d, y/d. Values that are not in use are zero. */
+/* What a sweep says: `pairs` pairs are listed; `steps` steps were done; `ended`, the queue is empty, so that a larger
+   budget would do no more; `complete`, no piece is upright. Where `ended` and `complete`, every pair that meets is
+   listed; where `complete` is false, pairs may be missing even then (mirtalughe_all_pairs has them). Where `visited`,
+   the last point is x/d, y/d in lowest terms, d above 0; at zero steps nothing is visited and all three are zero. */
 typedef struct {
     uint8_t number;
     size_t place;
@@ -53,30 +135,36 @@ typedef struct {
     uint64_t d;
 } mirtalughe_swept;
 
-/* Which way the three points turn: 1 counter-clockwise, -1 clockwise, 0 not at all. */
+/* ---- calls */
+
+/* Which way the three points turn: 1 counter-clockwise, -1 clockwise, 0 not at all. It is exact for every int16_t. */
 int8_t mirtalughe_orient(int16_t x1, int16_t y1, int16_t x2, int16_t y2, int16_t x3, int16_t y3);
 
-/* Which of the points x1/d1, y1/d1 and x2/d2, y2/d2 comes first, by x, then y: -1 the first, 1 the
-   second, 0 neither. */
+/* Which of the points x1/d1, y1/d1 and x2/d2, y2/d2 comes first, by x, then y: -1 the first, 1 the second, 0 neither.
+   It is exact for every value. With d = 0 there is no point: the call then says how x1 * d2 compares with x2 * d1
+   and, where these are equal, y1 * d2 with y2 * d1, which is no order of points. */
 int8_t mirtalughe_compare_points(int64_t x1, int64_t y1, uint64_t d1, int64_t x2, int64_t y2, uint64_t d2);
 
-/* Reads a chart file into a lent list, five numbers a piece: kind, x1, y1, x2, y2. `lent` is to be at
-   least 320. Numbers past the last piece keep their values. */
+/* Reads a chart file into a lent list and returns the count of pieces. `lent` is at least MIRTALUGHE_LIST_ROOM,
+   whatever the file. Numbers past the last piece keep their values. */
 mirtalughe_answer mirtalughe_read(const uint8_t *file, size_t size, int32_t *list, size_t lent);
 
-/* How the two pieces of ten numbers meet, the first one asking. */
+/* How the two pieces of a list meet, the first one asking; `length` is MIRTALUGHE_TWO_PIECES. */
 mirtalughe_met mirtalughe_meeting(const int32_t *list, size_t length);
 
-/* Where the two pieces of ten numbers meet. */
+/* Where the two pieces of a list meet; `length` is MIRTALUGHE_TWO_PIECES. Along, the values are the stretch's ends,
+   whole and exact. At, each is the double nearest to the exact value, ties to even, within 1/2^39 of it, and never
+   negative zero; for this the processor's rounding mode is the default one, to the nearest, during the call. */
 mirtalughe_placed mirtalughe_place(const int32_t *list, size_t length);
 
-/* Every pair of the n pieces of a list that meet, two bytes a pair: for a from 0, for b below a. `lent` is
-   to be at least n(n - 1). Bytes past the last pair keep their values. */
+/* Every pair of a list's n pieces that meet, two bytes a pair, the greater number first: for a from 0, for b below a.
+   `lent` is at least MIRTALUGHE_PAIRS_ROOM(n). Bytes past the last pair keep their values. */
 mirtalughe_answer mirtalughe_all_pairs(const int32_t *list, size_t length, uint8_t *pairs, size_t lent);
 
-/* Sweeps the n pieces of a list from left to right, at most `budget` steps, and lists the pairs that it finds
-   to meet, two bytes a pair, the lesser number first. `lent` is to be at least n(n - 1). Bytes past the last
-   pair keep their values. */
+/* Sweeps a list's n pieces from left to right, at most `budget` steps, a visited point each, and lists pairs that
+   meet, two bytes a pair, the lesser number first, in the order in which it finds them: on a chart with no upright
+   piece that is the order of their first common points, then of the lesser number, then of the greater. `lent` is at
+   least MIRTALUGHE_PAIRS_ROOM(n). Bytes past the last pair keep their values. */
 mirtalughe_swept mirtalughe_sweep(const int32_t *list, size_t length, uint32_t budget, uint8_t *pairs, size_t lent);
 
 #ifdef __cplusplus

@@ -1,3 +1,4 @@
+-- In quotation marks: docs/CHART.md, refusal, answer of a sweep.
 pub mod Numbers
 pub mod Meetings
 pub mod Places

@@ -1,5 +1,5 @@
--- What is promised of a chart file. The rows of document 01's table are stated here over the bytes themselves, apart from
--- the tests that the reading makes: a number is given if and only if its row holds.
+-- What is promised of a chart file. The rows of the table of refusals (docs/CHART.md) are stated here over the bytes
+-- themselves, apart from the tests that the reading makes: a number is given if and only if its row holds.
 use mathlib.Core.Path.{_≡_}
 use mathlib.Core.Logic.{_↔_}
 use mathlib.Core.List.{List, [], _∷_, _++_}

@@ -1,4 +1,4 @@
--- Document 01's examples of numbers and files, as one table over the definitions; the starred ones are the first five rows.
+-- The examples of docs/CHART.md of numbers and files, as one table over the definitions; the starred ones are the first five rows.
 use mathlib.Core.Path.{_≡_}
 use mathlib.Core.List.{[], _∷_}
 use lib.IntN.{pos, negsuc}

@@ -1,4 +1,4 @@
--- What a call on a list answers, by the scope's numbers, and the room that a list of pairs needs.
+-- What a call on a list answers, by the numbers of the table of refusals, and the room that a list of pairs needs.
 use mathlib.Core.Bool.{cond}
 use mathlib.Core.List.{List}
 use Prim.Native.Nat.{ℕ, _*_, _-_}

@@ -1,4 +1,4 @@
--- The fault of one piece, by its five numbers: rows 4, 5 and 6 of the scope's table, asked in that order.
+-- The fault of one piece, by its five numbers: rows 4, 5 and 6 of the table of refusals, asked in that order.
 -- Assumes nothing.
 use mathlib.Core.Bool.{Bool, false, cond, _&&_, _||_}
 use Prim.Native.Nat.{ℕ}

@@ -1,26 +1,23 @@
 -- The new mode on every accepted list of numbers: it keeps every promise, it can be done in place, and without upright
 -- pieces it answers as the ported mode does.
-use mathlib.Core.Path.{_≡_, sym, ap, _∙_}
+use mathlib.Core.Path.{_≡_}
 use mathlib.Core.Logic.{⊎-elim}
-use mathlib.Core.Bool.{Bool, true, false, not}
+use mathlib.Core.Bool.{Bool, true, false}
 use Prim.Native.Nat.{ℕ}
 use Rattle.fractions.specs.declared.Point.{Point}
 use Rattle.line_segment.specs.declared.LineSegment.{LineSegment}
 use Rattle.charts.specs.Piece.{pieceAt}
 use Rattle.sweep.specs.Lists.{upto, any}
-use Rattle.sweep.specs.Run.{answer-of, answer}
 use Rattle.sweep.specs.Ported.{isLess, isUpright, ported}
-use Rattle.sweep.specs.Demand.{RunPromises, ported-run}
+use Rattle.sweep.specs.Demand.{RunPromises}
 use Rattle.sweep.proofs.Tests.{ask, clash}
 use Rattle.sweep.proofs.Lists.{any-out}
 use Rattle.sweep.proofs.Pairs.{upto-out}
-use Rattle.sweep.proofs.Runs.{tells as ported-tells}
-use Rattle.sweep.proofs.Alike.{same-answers}
 use Rattle.sweep_geometry.specs.Demand.{AllProper, NoneUpright}
-use Rattle.sweep_geometry.proofs.Promises.{ported-sweeps}
+use Rattle.sweep_geometry.proofs.Promises.{ported-geometry}
 use Rattle.sweep_geometry.proofs.Accepted.{list-proper, list-flat, run-meetings}
 use Rattle.full_steps.specs.Demand.{full-run}
-use Rattle.full_steps.proofs.Promises.{promises, tells, says-complete}
+use Rattle.full_steps.proofs.Promises.{promises, agree}
 use Rattle.full_steps.proofs.Held.{in-place}
 use Rattle.full_order.specs.Finer.{finerOrder, finer, sidesOf}
 use Rattle.full_order.specs.Demand.{ListFullSweeps, FullListsMeetings, ListInPlace, SameModes, SameWithoutUprights}
@@ -41,18 +38,10 @@ module _ (n : ℕ) (piece : ℕ → LineSegment) (ok : AllProper n piece) where
         (λ (t : any (λ i. isUpright (piece i)) (upto n) ≡ false). t)
         (ask (any (λ i. isUpright (piece i)) (upto n)))
 
-    ported-complete : (budget : ℕ) → (answer (ported n piece) budget) .complete ≡ true
-    unfolding answer answer-of
-    ported-complete budget = ap not none-upright
-
     pub same-modes : SameModes n piece
     same-modes =
-        record {
-          answers =
-              same-answers (ported n piece) before (ported-run (ported n piece)) (full-run (finer n piece)) (ported-tells (ported n piece)) (tells (finer n piece))
-              ((ported-sweeps n piece ok flat) .sweeps) (full-promises .sweeps);
-          complete = λ budget. ported-complete budget ∙ sym (says-complete (finer n piece) budget);
-        }
+        let a = agree (ported n piece) before (ported-geometry n piece ok flat) (finer-geometry n piece ok) in
+        record { answers = a .same-answers; complete = a .same-complete none-upright }
 
 pub list-full-sweeps : ListFullSweeps
 list-full-sweeps list n e = full-promises n (pieceAt list) (list-proper list n e)

@@ -19,7 +19,7 @@ use Rattle.fractions.specs.Point.{pointOrder}
 use Rattle.fractions.specs.declared.Order.{Order}
 use Rattle.fractions.specs.declared.Order.the-variants.{Less, Greater}
 use Rattle.fractions.specs.declared.Point.{Point}
-use Rattle.fractions.proofs.Orders.{order-less, order-equal, order-greater}
+use Rattle.fractions.proofs.Orders.{order-less, order-equal}
 use Rattle.fractions.proofs.Points.{Places, left, below, above, right, places, placed, at-most-less}
 use Rattle.fractions.proofs.Points.{same as even}
 use Rattle.line_segment.specs.declared.LineSegment.{LineSegment}
@@ -34,11 +34,11 @@ use Rattle.sweep_geometry.specs.Full.{fullHeightOrder}
 use Rattle.sweep_geometry.proofs.Comparisons.{never}
 use Rattle.sweep_geometry.proofs.Gap.{level, gap, gap-sides, same-gap}
 use Rattle.sweep_geometry.proofs.Heights.{zero-times, height-by-gap}
-use Rattle.sweep_geometry.proofs.Preceding.{Precedes, not-first, then-second, under-height, over-height}
+use Rattle.sweep_geometry.proofs.Preceding.{Precedes, then-second, under-height, over-height}
 use Rattle.sweep_geometry.proofs.Uprights.{west-sloped, standing-x, higher, upright-on}
 use Rattle.sweep_geometry.proofs.Turning.{CrossIn, cross-in, meet-x, meet-above, meet-below, turning, upright-cross}
 use Rattle.full_order.specs.Finer.{slantOrder}
-use Rattle.full_order.proofs.Slants.{Finer, finer-precedes, also-on, rising, falling, level-slant}
+use Rattle.full_order.proofs.Slants.{Finer, finer-precedes, finer-behind, also-on, rising, falling, level-slant}
 
 pub record Stays (p : Point) (a b : LineSegment) (r : Order) : Type 0 where
   pub below : side a p <ℤ pos 0 → side b p <ℤ pos 0
@@ -184,10 +184,7 @@ module _ (a b : LineSegment) (la : HasLength a) (lb : HasLength b) (l p : Point)
     opening t =
         onwards
         (λ w. absurd (<→≢ (stays-above (level a b) (tilt a b) (l .x) (pos (l .d)) (p .x) (pos (p .d)) (pos-< dl) (pos-< dp) w (before .sloped ha hb) t) (sym g)))
-        (λ x y. by-slant (rising a b p dp ha hb g (<→≤ (climbed x y ha (met x))) ∙ order-less t))
-      where
-        met : One → pos 0 ≤ℤ side a l
-        met x = ≮→≥ (λ k. not-first (slantOrder l a b) r (then-slant (gap-then x)) (falling a b l dl ha hb (gap-then x) k ∙ order-greater t))
+        (λ x y. by-slant (rising a b p dp ha hb g (<→≤ (climbed x y ha (finer-behind a b l dl r h ha hb (gap-then x) t))) ∙ order-less t))
 
   persists : ¬ ((side a p ≡ pos 0) × (side b p ≡ pos 0)) → Finer p a b r
   persists n = go (leads a la) (leads b lb)

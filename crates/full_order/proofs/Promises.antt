@@ -19,10 +19,11 @@ use Rattle.sweep_geometry.proofs.Ranking.{less-is}
 use Rattle.sweep_geometry.proofs.Points.{at-most, up-to}
 use Rattle.sweep_geometry.proofs.Supply.{On, geometry, positive, between}
 use Rattle.full_steps.specs.InPlace.{InPlaceFacts}
-use Rattle.full_order.specs.Demand.{FinerSupplies}
+use Rattle.full_order.specs.Demand.{FinerSupplies, AheadSteeper}
 use Rattle.full_order.specs.Finer.{aside, finerOrder, throughOrder, finer, sidesOf}
 use Rattle.full_order.proofs.Slants.{finer-ranks, below-aside, on-aside, above-aside, aside-below, aside-on, aside-above}
 use Rattle.full_order.proofs.Persisting.{Stays, stays}
+use Rattle.full_order.proofs.Ahead.{steeper}
 use Rattle.full_order.proofs.Through.{both-through, below-first, above-last}
 
 module _ (n : ℕ) (piece : ℕ → LineSegment) (ok : AllProper n piece) where
@@ -105,3 +106,8 @@ module _ (n : ℕ) (piece : ℕ → LineSegment) (ok : AllProper n piece) where
 
 pub finer-supplies : FinerSupplies
 finer-supplies n piece ok = (finer-geometry n piece ok, in-place-facts n piece ok)
+
+pub ahead-steeper : AheadSteeper
+unfolding finerOrder
+ahead-steeper n piece ok p o i j ui uj e =
+    steeper (piece i) (piece j) (len n piece ok i (ui .0)) (len n piece ok j (uj .0)) p (above-zero n piece ok p o) (order (pos i) (pos j)) e (begun n piece ok p j (uj .1))

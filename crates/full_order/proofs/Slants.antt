@@ -9,7 +9,7 @@ use lib.IntN.{ℤ, pos, negℤ, _-ℤ_, _*ℤ_}
 use lib.Signed.{_≤ℤ_, _<ℤ_, clashℤ}
 use Rattle.integers.proofs.Identity.{by-ring, terms}
 use Rattle.integers.proofs.Signs.{<→≤, n*n}
-use Rattle.integers.proofs.Order.{≡-cert, ≡→≤, <-or-≥, ≰→>, ≤-antisym}
+use Rattle.integers.proofs.Order.{≡-cert, ≡→≤, <-or-≥, ≮→≥, ≰→>, ≤-antisym}
 use Rattle.integers.proofs.Factors.{m/p, n/p, o/p, m*p}
 use Rattle.integers.proofs.Naturals.{pos-<}
 use Rattle.fractions.specs.Order.{order, andThen}
@@ -28,8 +28,8 @@ use Rattle.sweep_geometry.proofs.Comparisons.{Orders, order-scaled}
 use Rattle.sweep_geometry.proofs.Gap.{gap, gap-sides, slope-tilt, below-side}
 use Rattle.sweep_geometry.proofs.Slopes.{standing-is, lean-down, lean-orders}
 use Rattle.sweep_geometry.proofs.Ranking.{less-is, rank-irr, rank-trans, rank-total}
-use Rattle.sweep_geometry.proofs.Heights.{above-sloped, below-sloped, full-heights, full-even, order-diff, zero-times}
-use Rattle.sweep_geometry.proofs.Preceding.{Precedes, precedes}
+use Rattle.sweep_geometry.proofs.Heights.{above-sloped, below-sloped, full-heights, full-even, order-diff, zero-times, height-by-gap}
+use Rattle.sweep_geometry.proofs.Preceding.{Precedes, not-first, then-second, precedes}
 use Rattle.sweep_geometry.proofs.Supply.{Ranks}
 use Rattle.full_order.specs.Finer.{aside, overhead, slant, slantOrder, finerOrder}
 
@@ -171,6 +171,14 @@ finer-precedes a b p d r = precedes a b p d (slantOrder p a b) r down meet
 
     meet : pos 0 <ℤ run a → pos 0 <ℤ run b → gap a b p ≡ pos 0 → tilt a b <ℤ pos 0 → ¬ (slantOrder p a b ≡ Greater) → side a p <ℤ pos 0
     meet ha hb g t n = ≰→> (λ h. n (rising a b p d ha hb g h ∙ order-greater t))
+
+-- of one height, b the steeper: they do not lie above p
+pub finer-behind : (a b : LineSegment) (p : Point) → 0 < p .d → (r : Order) → Finer p a b r
+    → pos 0 <ℤ run a → pos 0 <ℤ run b → gap a b p ≡ pos 0 → pos 0 <ℤ tilt a b → pos 0 ≤ℤ side a p
+finer-behind a b p d r h ha hb g t =
+    ≮→≥ (λ k.
+    not-first (slantOrder p a b) r (then-second (fullHeightOrder p a b) (andThen (slantOrder p a b) r) h (height-by-gap a b p d ha hb ∙ order-equal (sym g)))
+    (falling a b p d ha hb g k ∙ order-greater t))
 
 pub finer-ranks : (n : ℕ) (piece : ℕ → LineSegment) → AllProper n piece → Ranks n piece (λ p i j. isLess (finerOrder piece p i j))
 unfolding finerOrder

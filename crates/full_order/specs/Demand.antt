@@ -6,14 +6,19 @@ use mathlib.Core.List.{List}
 use mathlib.Core.List.{List·Memᴰ as In}
 use Prim.Native.Nat.{ℕ, _<_}
 use lib.IntN.{ℤ}
+use Rattle.fractions.specs.Point.{pointOrder}
+use Rattle.fractions.specs.declared.Order.the-variants.{Less, Greater}
+use Rattle.fractions.specs.declared.Point.{Point}
 use Rattle.line_segment.specs.declared.LineSegment.{LineSegment}
+use Rattle.line_segment.specs.declared.Meeting.the-variants.{Crossing}
+use Rattle.line_segment.specs.Segment.{intersectOf, crossingOf}
 use Rattle.line_segment.specs.Demand.{Meet}
 use Rattle.charts.specs.Chart.{verdictOf}
 use Rattle.charts.specs.Piece.{pieceAt, noUpright}
 use Rattle.charts.specs.declared.Verdict.the-variants.{Accepted}
-use Rattle.sweep.specs.Geometry.{Geometry}
+use Rattle.sweep.specs.Geometry.{Occurs, Under, Geometry}
 use Rattle.sweep.specs.Demand.{RunPromises, SameAnswers, ported-run}
-use Rattle.sweep.specs.Ported.{isLess, ported}
+use Rattle.sweep.specs.Ported.{isLess, slopeOrder, ported}
 use Rattle.sweep.specs.Run.{answer as portedAnswer}
 use Rattle.sweep_geometry.specs.Demand.{AllProper}
 use Rattle.full_steps.specs.Steps.{answer}
@@ -24,6 +29,14 @@ use Rattle.full_order.specs.Finer.{finerOrder, finer, sidesOf}
 -- the facts of geometry that a sweep needs of its order, and those that a step done in place needs
 abbrev pub FinerSupplies : Type 1
 FinerSupplies = (n : ℕ) (piece : ℕ → LineSegment) → AllProper n piece → (G : Geometry (finer n piece)) × InPlaceFacts (finer n piece) (sidesOf n piece) G
+
+-- of two pieces that cross beyond p, the one that comes before the other there is the steeper: no others need be examined
+abbrev pub AheadSteeper : Type 0
+AheadSteeper =
+    (n : ℕ) (piece : ℕ → LineSegment) → AllProper n piece → (p : Point) → Occurs (finer n piece) p
+    → (i j : ℕ) → Under (finer n piece) p i → Under (finer n piece) p j → finerOrder piece p i j ≡ Less
+    → intersectOf (piece i) (piece j) ≡ Crossing → pointOrder p (crossingOf (piece i) (piece j)) ≡ Less
+    → slopeOrder (piece i) (piece j) ≡ Greater
 
 -- so, of every accepted list of numbers: wherever the new mode is stopped, nothing that lies behind it is missing
 abbrev pub ListFullSweeps : Type 0

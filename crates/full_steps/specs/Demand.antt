@@ -1,13 +1,17 @@
 -- What is promised of the new mode: all that Demand of crate sweep states over a run, from the facts of geometry alone;
 -- and that the step done in place is the step.
 use mathlib.Core.Path.{_≡_}
-use mathlib.Core.Bool.{true}
-use mathlib.Core.List.{List, _++_}
-use mathlib.Core.Option.{some}
+use mathlib.Core.Logic.{_↔_}
+use mathlib.Core.Bool.{Bool, true, false}
+use mathlib.Core.List.{[], _++_}
+use mathlib.Core.Option.{none, some}
 use Prim.Native.Nat.{ℕ}
+use Rattle.sweep.specs.Lists.{upto, keep, any}
 use Rattle.sweep.specs.Chart.{Chart}
+use Rattle.sweep.specs.Queue.{ends, beyond}
+use Rattle.sweep.specs.Run.{answer as ported-answer}
 use Rattle.sweep.specs.Geometry.{Geometry}
-use Rattle.sweep.specs.Demand.{Run, RunPromises}
+use Rattle.sweep.specs.Demand.{Run, RunPromises, ported-run, reordered, SameAnswers}
 use Rattle.full_steps.specs.Steps.{State, next, reported, ranged, run, visited, answer}
 use Rattle.full_steps.specs.InPlace.{Sides, InPlaceFacts, below, block, above, replaced, fresh-pairs, lanes, relaned, Held, held-next, held-run, held-answer}
 
@@ -21,6 +25,22 @@ Promised = (C : Chart) → Geometry C → RunPromises C (full-run C)
 -- "complete" is always yes
 abbrev pub SaysComplete : Type 1
 SaysComplete = (C : Chart) (budget : ℕ) → (answer C budget) .complete ≡ true
+
+-- where the ported mode's order too has the facts of geometry, both modes say the same at every budget; on a chart with no
+-- upright piece, that they are complete as well
+pub record ModesAgree (C : Chart) (before : C .Point → ℕ → ℕ → Bool) : Type 0 where
+  pub same-answers : SameAnswers C before (ported-run C) (full-run (reordered C before))
+  pub same-complete : any (C .upright) (upto (C .n)) ≡ false → (budget : ℕ)
+      → (ported-answer C budget) .complete ≡ (answer (reordered C before) budget) .complete
+
+abbrev pub Agree : Type 1
+Agree = (C : Chart) (before : C .Point → ℕ → ℕ → Bool) → Geometry C → Geometry (reordered C before) → ModesAgree C before
+
+-- the queue is empty as soon as no end is left in it
+abbrev pub EndsDecide : Type 1
+EndsDecide =
+    (C : Chart) → Geometry C → (m : ℕ)
+    → (next C (run C m) ≡ none) ↔ (keep (beyond C ((run C m) .last)) (ends C (upto (C .n))) ≡ [])
 
 module _ (C : Chart) (S : Sides C) where
   -- after m steps, at the next point p: the active list is what lies below p, goes through it and lies above it, in this

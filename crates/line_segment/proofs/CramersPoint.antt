@@ -1,4 +1,4 @@
--- Cramer's point: on both lines, over a positive number, the same whichever piece asks, and within document 01's bounds.
+-- Cramer's point: on both lines, over a positive number, the same whichever piece asks, and within the bounds of a point.
 use mathlib.Core.Path.{_≡_, refl, sym, ap, _∙_}
 use mathlib.Core.List.{[], _∷_}
 use Prim.Native.Nat.{zero, suc, _<_, _^_}

@@ -1,4 +1,4 @@
--- The scope's worked examples of two pieces, computed from the definitions.
+-- The examples of docs/CHART.md of two pieces, computed from the definitions.
 use mathlib.Core.Path.{_≡_, refl}
 use mathlib.Core.Bool.{true, false}
 use Prim.Native.Nat.{ℕ}

@@ -1,7 +1,7 @@
 -- Which file to open for which fact. From another crate: `use Rattle.line_segment.proofs.FILE.{..}`.
 --   the statements of specs/Demand, kept                     Promises      says-yes-exactly and its kin
 --   each contract allows one result                          Once
---   the scope's examples, computed                           Examples
+--   the rules' examples, computed                            Examples
 --   two answers together; what cannot be                     Booleans      both, no
 --   what the test's parts answer, from a branch of the code  Answers       both-on, touch-yes, crossed
 --   what the parts of `contains` answer                      Holding       holds-between, in-bounds

@@ -1,4 +1,4 @@
--- Listings of the scope's charts, and of a file that it refuses, computed.
+-- Listings of the charts of docs/CHART.md, and of a refused file, computed.
 -- Assumes nothing.
 use mathlib.Core.Path.{_≡_, refl, ap, _∙_}
 use mathlib.Core.Bool.{true}

@@ -1,4 +1,4 @@
--- Lines of the scope, and of places on both sides of zero, computed.
+-- Lines of docs/CHART.md, and of places on both sides of zero, computed.
 -- Assumes nothing.
 use mathlib.Core.Path.{_≡_, refl}
 use mathlib.Core.Bool.{true, false}

@@ -1,4 +1,4 @@
--- The lines of a listing, as the scope prints them. A text is a list of ASCII codes.
+-- The lines of a listing, as docs/CHART.md prints them. A text is a list of ASCII codes.
 -- Assumes nothing.
 use mathlib.Core.Bool.{Bool, true, false}
 use mathlib.Core.List.{List, [], _∷_, _++_}

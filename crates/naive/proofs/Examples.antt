@@ -1,4 +1,4 @@
--- The scope's worked charts, listed by the definitions.
+-- The charts of docs/CHART.md, listed by the definitions.
 use mathlib.Core.Path.{_≡_, refl}
 use mathlib.Core.List.{List, [], _∷_, _++_}
 use Prim.Native.Nat.{ℕ}

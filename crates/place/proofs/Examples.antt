@@ -1,4 +1,4 @@
--- The scope's worked examples of two pieces, placed by computing the definitions; values by their bits.
+-- The examples of docs/CHART.md of two pieces, placed by computing the definitions; values by their bits.
 use mathlib.Core.Path.{_≡_, refl}
 use mathlib.Core.List.{List, [], _∷_, map}
 use Prim.Native.Nat.{ℕ}

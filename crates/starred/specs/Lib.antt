@@ -1,4 +1,5 @@
--- The scope's checked examples: the proved set (`Starred`), and the upright gap (`UprightGap`).
+-- The checked examples of docs/CHART.md: the proved set (`Starred`), and the upright gap (`UprightGap`).
+-- In quotation marks: docs/CHART.md, Examples.
 pub mod Written
 pub mod Starred
 pub mod UprightGap

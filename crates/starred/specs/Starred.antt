@@ -1,4 +1,4 @@
--- The starred examples, in the scope's order, each under its line, over the definitions that the calls' contracts cite.
+-- The starred examples, in the order of docs/CHART.md, each under its line, over the definitions that the calls' contracts cite.
 use mathlib.Core.Path.{_≡_}
 use mathlib.Core.Bool.{true, false}
 use mathlib.Core.List.{List, [], _∷_, _++_}

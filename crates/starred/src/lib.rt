@@ -1,1 +1,1 @@
-// No code: the scope's starred examples and the upright gap, as tables over what the calls' contracts cite.
+// No code: the starred examples of docs/CHART.md and the upright gap, as tables over what the calls' contracts cite.

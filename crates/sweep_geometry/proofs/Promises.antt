@@ -8,11 +8,12 @@ use Rattle.fractions.specs.Order.{order}
 use Rattle.fractions.specs.declared.Point.{Point}
 use Rattle.line_segment.specs.declared.LineSegment.{LineSegment}
 use Rattle.line_segment.proofs.Along.{Leads, leads}
+use Rattle.sweep.specs.Geometry.{Geometry}
 use Rattle.sweep.specs.Ported.{isLess, isUpright, heightAbove, heightBelow, heightOrder, rankOrder, ported}
 use Rattle.sweep.proofs.Promises.{promises}
 use Rattle.sweep.proofs.Always.{always}
 use Rattle.sweep_geometry.specs.Full.{fullAbove, fullBelow, fullHeightOrder, fullOrder, full}
-use Rattle.sweep_geometry.specs.Demand.{AllProper, PortedSweeps, PortedAlways, FullSweeps}
+use Rattle.sweep_geometry.specs.Demand.{AllProper, NoneUpright, PortedSweeps, PortedAlways, FullSweeps}
 use Rattle.sweep_geometry.proofs.Heights.{full-irr, full-trans, full-total, ported-irr}
 use Rattle.sweep_geometry.proofs.Ranking.{less-is}
 use Rattle.sweep_geometry.proofs.Preceding.{full-precedes}
@@ -60,11 +61,13 @@ module _ (n : ℕ) (piece : ℕ → LineSegment) (ok : AllProper n piece) where
 pub full-sweeps : FullSweeps
 full-sweeps n piece ok = promises (full n piece) (geometry n piece ok (λ p i j. isLess (fullOrder piece p i j)) (full-ranks n piece ok))
 
+pub ported-geometry : (n : ℕ) (piece : ℕ → LineSegment) → AllProper n piece → NoneUpright n piece → Geometry (ported n piece)
+ported-geometry n piece ok flat =
+    geometry n piece ok (λ p i j. isLess (rankOrder piece p i j))
+    (agreeing n piece ok (λ p i j. isLess (rankOrder piece p i j)) (ported-irr piece) (λ p i j hi hj. ap isLess (same-order piece p i j (flat i hi) (flat j hj))))
+
 pub ported-sweeps : PortedSweeps
-ported-sweeps n piece ok flat =
-    promises (ported n piece)
-    (geometry n piece ok (λ p i j. isLess (rankOrder piece p i j))
-    (agreeing n piece ok (λ p i j. isLess (rankOrder piece p i j)) (ported-irr piece) (λ p i j hi hj. ap isLess (same-order piece p i j (flat i hi) (flat j hj)))))
+ported-sweeps n piece ok flat = promises (ported n piece) (ported-geometry n piece ok flat)
 
 pub ported-always : PortedAlways
 ported-always n piece ok = always (ported n piece) (points-ordered n piece ok (λ p i j. isLess (rankOrder piece p i j)))

@@ -23,6 +23,7 @@ replay-next-spec =
     (λ c κs. search needs)
     (λ c. search needs)
     (λ c. search needs)
+    (λ c. search needs)
     slice-aggregate-replay-full
     (λ c κs. search needs)
     (λ c. search needs)

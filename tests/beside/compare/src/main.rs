@@ -1,6 +1,6 @@
 //! Holds the published Rust, this library and a plain model against each other, chart by chart.
 //!
-//!   compare gate               the fixed charts
+//!   compare gate [SHARE]       the fixed charts, or of those families that have thousands one chart in SHARE
 //!   compare long SEED COUNT    those kept by hand, and COUNT random charts of each temper from SEED
 //!   compare record FOLDER      writes the Rust's answers on a fixed sample
 //!   compare listing FILE       what the Rust lists of a chart file, as the chart program's text
@@ -60,7 +60,11 @@ fn main() -> ExitCode {
   let words: Vec<String> = std::env::args().skip(1).collect();
   let words: Vec<&str> = words.iter().map(String::as_str).collect();
   let (families, seed, files) = match words[..] {
-    ["gate"] => (gate(), GATE_SEED, GATE_FILES),
+    ["gate"] => (gate(1), GATE_SEED, GATE_FILES),
+    ["gate", share] => match share.parse() {
+      Ok(share) if share > 0 => (gate(share), GATE_SEED, GATE_FILES / share),
+      _ => return usage(),
+    },
     ["long", seed, count] => match (seed.parse(), count.parse()) {
       (Ok(seed), Ok(count)) => (long(seed, count), seed, count),
       _ => return usage(),
@@ -102,7 +106,9 @@ fn main() -> ExitCode {
 }
 
 fn usage() -> ExitCode {
-  eprintln!("usage: compare gate | long SEED COUNT | record FOLDER | listing FILE | bench FOLDER");
+  eprintln!(
+    "usage: compare gate [SHARE] | long SEED COUNT | record FOLDER | listing FILE | bench FOLDER"
+  );
   ExitCode::from(2)
 }
 
@@ -116,18 +122,37 @@ fn written(outcome: std::io::Result<()>) -> ExitCode {
   }
 }
 
-fn gate() -> Vec<Family> {
+fn gate(share: usize) -> Vec<Family> {
   vec![
     kept(),
-    tiny(),
-    grid_pairs(),
-    random("degenerate", GATE_SEED, 17_000, charts::degenerate),
-    random("extreme", GATE_SEED, 3_000, charts::extreme),
-    random("near-tied", GATE_SEED, 2_000, charts::near_ties),
-    random("half-way", GATE_SEED, 2_000, charts::near_halves),
+    thinned(tiny(), share),
+    thinned(grid_pairs(), share),
+    thinned(
+      random("degenerate", GATE_SEED, 17_000, charts::degenerate),
+      share,
+    ),
+    thinned(random("extreme", GATE_SEED, 3_000, charts::extreme), share),
+    thinned(
+      random("near-tied", GATE_SEED, 2_000, charts::near_ties),
+      share,
+    ),
+    thinned(
+      random("half-way", GATE_SEED, 2_000, charts::near_halves),
+      share,
+    ),
     random("any-size", GATE_SEED, 300, charts::any_size),
     random("full-size", GATE_SEED, 1_000, charts::full_size),
   ]
+}
+
+/// One chart in `share` of a family.
+fn thinned(family: Family, share: usize) -> Family {
+  let chart = family.chart;
+  Family {
+    count: family.count.div_ceil(share),
+    chart: Box::new(move |i| chart(share * i)),
+    ..family
+  }
 }
 
 fn long(seed: u64, count: usize) -> Vec<Family> {

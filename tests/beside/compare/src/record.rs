@@ -1,5 +1,5 @@
-//! Writes the Rust's answers on a fixed sample of charts, for programs of the library to replay:
-//! in each folder `stdin`, the charts, and `stdout`, what the Rust says of them, chart by chart.
+//! Writes the Rust's answers on a fixed sample of charts, for crates/replay to replay: `stdin`, a
+//! record for each question, and `stdout`, what the Rust says to each, in order.
 
 use std::fmt::Write;
 use std::fs;
@@ -17,14 +17,34 @@ const SEED: u64 = 2;
 
 pub fn write(folder: &Path) -> io::Result<()> {
   let (two, any) = (charts_of_two(), charts_of_any_count());
-  write_one(&folder.join("segment"), &two, segment)?;
-  write_one(&folder.join("place"), &two, place)?;
-  write_one(&folder.join("naive"), &any, naive)?;
-  write_one(&folder.join("sweep"), &any, sweep)?;
-  write_one(&folder.join("chart"), &any, listing)?;
-  let files = files::sample();
-  let answers = files.iter().map(|bytes| reading(bytes));
-  write_files(&folder.join("file"), &files, answers.collect())
+  let mut asked = Vec::new();
+  let mut told = String::new();
+  for bytes in files::sample() {
+    asked.extend(record(b'r', &bytes));
+    told += &reading(&bytes);
+  }
+  let questions: [(u8, &[Chart], fn(&Chart) -> String); 5] = [
+    (b'm', &two, segment),
+    (b'p', &two, place),
+    (b'a', &any, naive),
+    (b's', &any, sweep),
+    (b'l', &any, listing),
+  ];
+  for (letter, charts, answer) in questions {
+    for chart in charts {
+      asked.extend(record(letter, &file::write(chart)));
+      told += &answer(chart);
+    }
+  }
+  fs::create_dir_all(folder)?;
+  fs::write(folder.join("stdin"), asked)?;
+  fs::write(folder.join("stdout"), told)
+}
+
+/// The letter of the question, the length of the file, two bytes, low first, and the file.
+fn record(letter: u8, file: &[u8]) -> Vec<u8> {
+  let [low, high] = (file.len() as u16).to_le_bytes();
+  [&[letter, low, high], file].concat()
 }
 
 /// The chart program's text for a chart file; a refusal is the model's.
@@ -34,23 +54,6 @@ pub fn print_listing(file: &Path) -> io::Result<()> {
     Err((number, _)) => println!("refused {number}"),
   }
   Ok(())
-}
-
-fn write_one(folder: &Path, charts: &[Chart], answer: fn(&Chart) -> String) -> io::Result<()> {
-  let files: Vec<Vec<u8>> = charts.iter().map(file::write).collect();
-  write_files(folder, &files, charts.iter().map(answer).collect())
-}
-
-/// A file stands in `stdin` after its length, two bytes, low first.
-fn write_files(folder: &Path, files: &[Vec<u8>], answers: String) -> io::Result<()> {
-  let mut stdin = Vec::new();
-  for bytes in files {
-    stdin.extend((bytes.len() as u16).to_le_bytes());
-    stdin.extend(bytes);
-  }
-  fs::create_dir_all(folder)?;
-  fs::write(folder.join("stdin"), stdin)?;
-  fs::write(folder.join("stdout"), answers)
 }
 
 fn charts_of_two() -> Vec<Chart> {

@@ -1,6 +1,0 @@
-// How the two pieces of each recorded chart meet.
-use replay::Asked;
-
-fn main() {
-    replay::replay_all(Asked::Meeting);
-}

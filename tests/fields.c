@@ -1,0 +1,284 @@
+/* Reads every field of a telling answer of every call, refused ones too, and holds it to the value that docs/CHART.md gives:
+   no two fields of one type are equal in all answers, so that two exchanged in the header are told. Then the sizes of the
+   header from both sides, and what it says of NULL, of -32,768 and of d = 0. */
+#include <stdio.h>
+#include <string.h>
+
+#include "mirtalughe.h"
+
+enum { KEPT = 0x5A };
+
+static int checks, wrong;
+
+static void check(int line, const char *told, bool right) {
+    checks++;
+    if (right) return;
+    wrong++;
+    printf("fields: line %d: %s\n", line, told);
+}
+#define CHECK(fact) check(__LINE__, #fact, fact)
+#define LENGTH(array) (sizeof(array) / sizeof *(array))
+
+static int32_t list[MIRTALUGHE_LIST_ROOM + MIRTALUGHE_PIECE_NUMBERS];
+static uint8_t pairs[MIRTALUGHE_PAIRS_ROOM(MIRTALUGHE_MOST_PIECES) + 1];
+
+/* Two pieces that cross at 5/3, 10/3. */
+static const int32_t crossing[] = {3, 0, 0, 3, 6, 3, 0, 5, 5, 0};
+/* Two on one line that share the stretch from 1, 2, excluded, to 4, 8, included. */
+static const int32_t overlap[] = {3, 0, 0, 6, 12, 2, 1, 2, 4, 8};
+/* Two on one line that share one point. */
+static const int32_t touching[] = {3, 0, 0, 2, 1, 3, 2, 1, 6, 3};
+/* Two that do not meet: the one end that touches is excluded. */
+static const int32_t apart[] = {3, 0, 0, 4, 0, 2, 2, 0, 3, 5};
+/* The upright gap of docs/CHART.md. */
+static const int32_t gap[] = {3, 0, 0, 0, 10, 3, -5, 3, 5, 3, 3, -5, 6, 5, 6};
+/* Piece 1 is at fault, with 4, 5 and 6. */
+static const int32_t kind[] = {3, 0, 0, 3, 6, 4, 0, 5, 5, 0};
+static const int32_t coordinate[] = {3, 0, 0, 3, 6, 3, 0, 5, 5, -32768};
+static const int32_t no_length[] = {3, 0, 0, 3, 6, 3, 5, 1, 5, 1};
+
+static void answers_of_read(void) {
+    static const uint8_t file[] = {2, 3, 0, 0, 8, 8, 3, 0, 8, 8, 0};
+    static const int32_t numbers[] = {3, 0, 0, 4, 4, 3, 0, 4, 4, 0};
+    for (size_t i = 0; i < LENGTH(list); i++) list[i] = KEPT;
+    mirtalughe_answer read = mirtalughe_read(file, sizeof file, list, MIRTALUGHE_LIST_ROOM);
+    CHECK(read.number == MIRTALUGHE_DONE);
+    CHECK(read.place == 0);
+    CHECK(read.count == 2);
+    CHECK(memcmp(list, numbers, sizeof numbers) == 0);
+    CHECK(list[LENGTH(numbers)] == KEPT);
+
+    static const struct {
+        uint8_t bytes[8];
+        size_t size;
+        mirtalughe_refusal number;
+        size_t place;
+    } wrongs[] = {
+        {{1, 3, 0}, 3, MIRTALUGHE_FILE_ENDS, 3},
+        {{1, 3, 0, 0x80, 0}, 5, MIRTALUGHE_GROUPS, 3},
+        {{MIRTALUGHE_MOST_PIECES + 1}, 1, MIRTALUGHE_COUNT, 0},
+        {{1, 4}, 2, MIRTALUGHE_KIND, 1},
+        {{1, 3, 0xFF, 0xFF, 3}, 5, MIRTALUGHE_COORDINATE, 2}, /* -32,768 */
+        {{1, 3, 2, 4, 2, 4}, 6, MIRTALUGHE_NO_LENGTH, 1},
+        {{1, 3, 0, 0, 2, 2, 9}, 7, MIRTALUGHE_EXTRA_BYTES, 6},
+    };
+    for (size_t i = 0; i < LENGTH(wrongs); i++) {
+        mirtalughe_answer refused = mirtalughe_read(wrongs[i].bytes, wrongs[i].size, list, MIRTALUGHE_LIST_ROOM);
+        CHECK(refused.number == wrongs[i].number);
+        CHECK(refused.place == wrongs[i].place);
+        CHECK(refused.count == 0);
+    }
+    CHECK(memcmp(list, numbers, sizeof numbers) == 0);
+}
+
+static void answers_of_meeting(void) {
+    mirtalughe_met met = mirtalughe_meeting(overlap, MIRTALUGHE_TWO_PIECES);
+    CHECK(met.number == MIRTALUGHE_DONE);
+    CHECK(met.place == 0);
+    CHECK(met.meets == MIRTALUGHE_OVERLAP);
+    CHECK(met.min.x == 1);
+    CHECK(met.min.y == 2);
+    CHECK(!met.min.included);
+    CHECK(met.max.x == 4);
+    CHECK(met.max.y == 8);
+    CHECK(met.max.included);
+    met = mirtalughe_meeting(touching, MIRTALUGHE_TWO_PIECES);
+    CHECK(met.meets == MIRTALUGHE_OVERLAP);
+    CHECK(met.min.x == 2 && met.min.y == 1 && met.min.included);
+    CHECK(met.max.x == 2 && met.max.y == 1 && met.max.included);
+
+    mirtalughe_met others[] = {
+        mirtalughe_meeting(crossing, MIRTALUGHE_TWO_PIECES),
+        mirtalughe_meeting(apart, MIRTALUGHE_TWO_PIECES),
+        mirtalughe_meeting(kind, MIRTALUGHE_TWO_PIECES),
+        mirtalughe_meeting(overlap, MIRTALUGHE_TWO_PIECES - 1),
+    };
+    static const uint8_t due[][3] = {
+        {MIRTALUGHE_DONE, 0, MIRTALUGHE_CROSSING},
+        {MIRTALUGHE_DONE, 0, MIRTALUGHE_NOTHING},
+        {MIRTALUGHE_KIND, 1, MIRTALUGHE_NOTHING},
+        {MIRTALUGHE_LIST_LENGTH, 0, MIRTALUGHE_NOTHING},
+    };
+    for (size_t i = 0; i < LENGTH(others); i++) {
+        CHECK(others[i].number == due[i][0]);
+        CHECK(others[i].place == due[i][1]);
+        CHECK(others[i].meets == due[i][2]);
+        CHECK(others[i].min.x == 0 && others[i].min.y == 0 && !others[i].min.included);
+        CHECK(others[i].max.x == 0 && others[i].max.y == 0 && !others[i].max.included);
+    }
+}
+
+static void answers_of_place(void) {
+    mirtalughe_placed at = mirtalughe_place(crossing, MIRTALUGHE_TWO_PIECES);
+    CHECK(at.number == MIRTALUGHE_DONE);
+    CHECK(at.place == 0);
+    CHECK(at.meets == MIRTALUGHE_AT);
+    CHECK(at.x1 == 5.0 / 3.0);
+    CHECK(at.y1 == 10.0 / 3.0);
+    CHECK(at.x2 == 0 && at.y2 == 0);
+    mirtalughe_placed along = mirtalughe_place(overlap, MIRTALUGHE_TWO_PIECES);
+    CHECK(along.number == MIRTALUGHE_DONE);
+    CHECK(along.place == 0);
+    CHECK(along.meets == MIRTALUGHE_ALONG);
+    CHECK(along.x1 == 1);
+    CHECK(along.y1 == 2);
+    CHECK(along.x2 == 4);
+    CHECK(along.y2 == 8);
+    along = mirtalughe_place(touching, MIRTALUGHE_TWO_PIECES);
+    CHECK(along.meets == MIRTALUGHE_ALONG);
+    CHECK(along.x1 == 2 && along.y1 == 1 && along.x2 == 2 && along.y2 == 1);
+
+    mirtalughe_placed others[] = {
+        mirtalughe_place(apart, MIRTALUGHE_TWO_PIECES),
+        mirtalughe_place(no_length, MIRTALUGHE_TWO_PIECES),
+        mirtalughe_place(gap, LENGTH(gap)),
+    };
+    static const uint8_t due[][2] = {{MIRTALUGHE_DONE, 0}, {MIRTALUGHE_NO_LENGTH, 1}, {MIRTALUGHE_LIST_LENGTH, 0}};
+    for (size_t i = 0; i < LENGTH(others); i++) {
+        CHECK(others[i].number == due[i][0]);
+        CHECK(others[i].place == due[i][1]);
+        CHECK(others[i].meets == MIRTALUGHE_NOTHING);
+        CHECK(others[i].x1 == 0 && others[i].y1 == 0 && others[i].x2 == 0 && others[i].y2 == 0);
+    }
+}
+
+static void answers_of_all_pairs(void) {
+    memset(pairs, KEPT, sizeof pairs);
+    mirtalughe_answer listed = mirtalughe_all_pairs(gap, LENGTH(gap), pairs, MIRTALUGHE_PAIRS_ROOM(3));
+    static const uint8_t due[] = {1, 0, 2, 0, KEPT};
+    CHECK(listed.number == MIRTALUGHE_DONE);
+    CHECK(listed.place == 0);
+    CHECK(listed.count == 2);
+    CHECK(memcmp(pairs, due, sizeof due) == 0);
+
+    mirtalughe_answer refused = mirtalughe_all_pairs(coordinate, LENGTH(coordinate), pairs, MIRTALUGHE_PAIRS_ROOM(2));
+    CHECK(refused.number == MIRTALUGHE_COORDINATE);
+    CHECK(refused.place == 1);
+    CHECK(refused.count == 0);
+    CHECK(memcmp(pairs, due, sizeof due) == 0);
+}
+
+static void is_refused(mirtalughe_swept swept, mirtalughe_refusal number, size_t place) {
+    CHECK(swept.number == number);
+    CHECK(swept.place == place);
+    CHECK(swept.pairs == 0);
+    CHECK(swept.steps == 0);
+    CHECK(!swept.ended && !swept.complete && !swept.visited);
+    CHECK(swept.x == 0 && swept.y == 0 && swept.d == 0);
+}
+
+static void answers_of_sweep(void) {
+    memset(pairs, KEPT, sizeof pairs);
+    mirtalughe_swept none = mirtalughe_sweep(crossing, LENGTH(crossing), 0, pairs, 2);
+    CHECK(none.number == MIRTALUGHE_DONE && none.place == 0 && none.pairs == 0 && none.steps == 0);
+    CHECK(!none.ended);
+    CHECK(none.complete);
+    CHECK(!none.visited);
+    CHECK(none.x == 0 && none.y == 0 && none.d == 0);
+    CHECK(pairs[0] == KEPT);
+
+    /* (0,0) (0,5) (5/3,10/3) (3,6) (5,0) */
+    mirtalughe_swept three = mirtalughe_sweep(crossing, LENGTH(crossing), 3, pairs, 2);
+    CHECK(three.number == MIRTALUGHE_DONE);
+    CHECK(three.place == 0);
+    CHECK(three.pairs == 1);
+    CHECK(three.steps == 3);
+    CHECK(!three.ended);
+    CHECK(three.complete);
+    CHECK(three.visited);
+    CHECK(three.x == 5);
+    CHECK(three.y == 10);
+    CHECK(three.d == 3);
+    CHECK(pairs[0] == 0 && pairs[1] == 1 && pairs[2] == KEPT);
+
+    mirtalughe_swept upright = mirtalughe_sweep(gap, LENGTH(gap), UINT32_MAX, pairs, MIRTALUGHE_PAIRS_ROOM(3));
+    CHECK(upright.number == MIRTALUGHE_DONE && upright.place == 0);
+    CHECK(upright.pairs == 1);
+    CHECK(upright.steps == 7);
+    CHECK(upright.ended);
+    CHECK(!upright.complete);
+    CHECK(upright.visited);
+    CHECK(upright.x == 5 && upright.y == 6 && upright.d == 1);
+
+    is_refused(mirtalughe_sweep(no_length, LENGTH(no_length), 9, pairs, 2), MIRTALUGHE_NO_LENGTH, 1);
+    is_refused(mirtalughe_sweep(crossing, LENGTH(crossing), 9, pairs, 1), MIRTALUGHE_ROOM, 0);
+}
+
+static void numbers(void) {
+    CHECK(mirtalughe_orient(0, 0, 4, 0, 4, 4) == 1);
+    CHECK(mirtalughe_orient(0, 0, 4, 4, 4, 0) == -1);
+    CHECK(mirtalughe_orient(0, 0, 2, 2, 4, 4) == 0);
+    CHECK(mirtalughe_orient(-32768, -32768, 32767, -32768, 32767, 32767) == 1);
+    CHECK(mirtalughe_compare_points(2, 9, 3, 3, 0, 4) == -1);
+    CHECK(mirtalughe_compare_points(1, 2, 2, 2, 3, 4) == 1);
+    CHECK(mirtalughe_compare_points(2, 2, 3, 4, 4, 6) == 0);
+    CHECK(mirtalughe_compare_points(INT64_MIN, 0, 1, INT64_MIN + 1, 0, 1) == -1);
+    CHECK(mirtalughe_compare_points(INT64_MAX, 0, UINT64_MAX, INT64_MAX - 1, 0, UINT64_MAX - 2) == 1);
+    /* d = 0: 1 * 3 and 2 * 0; -1 * 7 and 7 * 0; 0 and 0, then 5 * 7 and 7 * 0 */
+    CHECK(mirtalughe_compare_points(1, 0, 0, 2, 0, 3) == 1);
+    CHECK(mirtalughe_compare_points(-1, 5, 0, 7, 7, 7) == -1);
+    CHECK(mirtalughe_compare_points(0, 5, 0, 7, 7, 7) == 1);
+    CHECK(mirtalughe_compare_points(0, 0, 0, 7, 7, 7) == 0);
+}
+
+/* So many pieces of which every two cross, each at a point of its own. */
+static size_t every_two_cross(int32_t pieces) {
+    int32_t *at = list;
+    for (int32_t i = 0; i < pieces; i++) {
+        int32_t piece[] = {3, -MIRTALUGHE_LIMIT, 1000 * i - 32000, MIRTALUGHE_LIMIT, 32000 - 15 * i * i};
+        memcpy(at, piece, sizeof piece);
+        at += MIRTALUGHE_PIECE_NUMBERS;
+    }
+    return (size_t)(at - list);
+}
+
+static void sizes(void) {
+    static const uint8_t no_pieces[] = {0};
+    CHECK(mirtalughe_read(no_pieces, 1, list, MIRTALUGHE_LIST_ROOM).number == MIRTALUGHE_DONE);
+    CHECK(mirtalughe_read(no_pieces, 1, list, MIRTALUGHE_LIST_ROOM - 1).number == MIRTALUGHE_ROOM);
+
+    size_t most = every_two_cross(MIRTALUGHE_MOST_PIECES), room = MIRTALUGHE_PAIRS_ROOM(MIRTALUGHE_MOST_PIECES);
+    CHECK(most == MIRTALUGHE_LIST_ROOM);
+    CHECK(mirtalughe_all_pairs(list, most, pairs, room).count == MIRTALUGHE_MOST_PAIRS);
+    CHECK(mirtalughe_sweep(list, most, UINT32_MAX, pairs, room).pairs == MIRTALUGHE_MOST_PAIRS);
+    CHECK(mirtalughe_sweep(list, most, UINT32_MAX, pairs, room).steps == MIRTALUGHE_MOST_STEPS);
+    CHECK(!mirtalughe_sweep(list, most, MIRTALUGHE_MOST_STEPS - 1, pairs, room).ended);
+    CHECK(mirtalughe_sweep(list, most, UINT32_MAX, pairs, room - 1).number == MIRTALUGHE_ROOM);
+    CHECK(mirtalughe_all_pairs(list, most, pairs, room - 1).number == MIRTALUGHE_ROOM);
+    list[1] = -MIRTALUGHE_LIMIT - 1;
+    CHECK(mirtalughe_all_pairs(list, most, pairs, room).number == MIRTALUGHE_COORDINATE);
+    size_t beyond = every_two_cross(MIRTALUGHE_MOST_PIECES + 1);
+    CHECK(mirtalughe_all_pairs(list, beyond, pairs, sizeof pairs).number == MIRTALUGHE_COUNT);
+    CHECK(MIRTALUGHE_PAIRS_ROOM(0) == 0 && MIRTALUGHE_PAIRS_ROOM((size_t)0) == 0 && MIRTALUGHE_PAIRS_ROOM(1) == 0);
+}
+
+static void version(void) {
+    char told[32];
+    snprintf(told, sizeof told, "%d.%d.%d", MIRTALUGHE_VERSION_MAJOR, MIRTALUGHE_VERSION_MINOR, MIRTALUGHE_VERSION_PATCH);
+    CHECK(strcmp(told, MIRTALUGHE_VERSION) == 0);
+}
+
+static void null(void) {
+    CHECK(mirtalughe_read(NULL, 0, list, MIRTALUGHE_LIST_ROOM).number == MIRTALUGHE_FILE_ENDS);
+    CHECK(mirtalughe_read(NULL, 0, NULL, 0).number == MIRTALUGHE_ROOM);
+    CHECK(mirtalughe_meeting(NULL, 0).number == MIRTALUGHE_LIST_LENGTH);
+    CHECK(mirtalughe_place(NULL, 0).number == MIRTALUGHE_LIST_LENGTH);
+    CHECK(mirtalughe_all_pairs(NULL, 0, NULL, 0).number == MIRTALUGHE_DONE);
+    CHECK(mirtalughe_all_pairs(crossing, MIRTALUGHE_PIECE_NUMBERS, NULL, 0).number == MIRTALUGHE_DONE);
+    CHECK(mirtalughe_sweep(NULL, 0, 0, NULL, 0).ended);
+    CHECK(mirtalughe_sweep(crossing, MIRTALUGHE_PIECE_NUMBERS, UINT32_MAX, NULL, 0).steps == 2);
+}
+
+int main(void) {
+    answers_of_read();
+    answers_of_meeting();
+    answers_of_place();
+    answers_of_all_pairs();
+    answers_of_sweep();
+    numbers();
+    sizes();
+    version();
+    null();
+    printf("fields: %d checks, %d wrong\n", checks, wrong);
+    return wrong != 0;
+}
