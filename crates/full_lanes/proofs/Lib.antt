@@ -1,0 +1,5 @@
+-- Which file to open for which fact. From another crate: `use Rattle.full_lanes.proofs.FILE.{..}`.
+--   a lane from the code's branches               Laning   lane-crossing, lane-any, first-lesser
+--   the least of the lanes                        Least    left-first, kept, newer
+pub mod Laning
+pub mod Least
