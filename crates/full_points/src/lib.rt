@@ -58,7 +58,7 @@ pub fn spot_of(p: Point) -> Spot
 }
 
 // A coordinate of an end, counted from -32,768.
-fn from_least(x: i16) -> u64
+pub fn from_least(x: i16) -> u64
     ensures { λ r. ⌜ pos r ≡ x +ℤ pos 32768 ⌝ }
 {
     (x as i64 + SHIFT) as u64
