@@ -25,7 +25,7 @@ use Rattle.full_points.proofs.Keys.{key-lowest}
 use Rattle.full_lanes.specs.Lanes.{noKey, keyed, laneIn, pairAt, examined, meetingAt}
 
 -- ---- the answer of the test
-the-key : (a b : LineSegment) → keyOf (cramerOf a b) ≡ keyOf (crossingOf a b)
+pub the-key : (a b : LineSegment) → keyOf (cramerOf a b) ≡ keyOf (crossingOf a b)
 unfolding crossingOf
 the-key a b = key-lowest (cramerOf a b)
 
