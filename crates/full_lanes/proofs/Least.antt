@@ -16,7 +16,7 @@ use Rattle.fractions.specs.declared.Order.the-variants.{Less, Equal, Greater}
 use Rattle.fractions.specs.declared.Point.{Point}
 use Rattle.fractions.proofs.Points.{left, placed, point-itself, point-turned, less-at-most}
 use Rattle.sweep.specs.Ported.{isLess}
-use Rattle.full_points.specs.Spot.{ChartPoint, keyOf}
+use Rattle.full_points.specs.Spot.{Charted, keyOf}
 use Rattle.full_points.proofs.Keys.{key-less}
 use Rattle.full_lanes.specs.Lanes.{noKey, meetingAt, Taken, Keyed, LeastLane, Newer}
 
@@ -34,12 +34,12 @@ no-less : {A : Type 0} → _≡_ {A = Bool} true false → A
 no-less e = absurd (let z : _≡_ {A = ℕ} 0 1 = cc in omega arith)
 
 -- the less of two is not the greater
-not-back : (p q : Point) → pointOrder p q ≡ Less → isLess (pointOrder q p) ≡ false
+pub not-back : (p q : Point) → pointOrder p q ≡ Less → isLess (pointOrder q p) ≡ false
 not-back p q e = ap isLess (point-turned p q ∙ ap turned e)
 
 -- a lesser key lies to the left
-left-first : (p q : Point) → ChartPoint p → ChartPoint q → keyOf p < keyOf q → pointOrder p q ≡ Less
-left-first p q hp hq h = placed (left (key-less p q (hp .along) (hq .along) h))
+pub left-by-x : (p q : Point) → Charted (p .x) (p .d) → Charted (q .x) (q .d) → keyOf p < keyOf q → pointOrder p q ≡ Less
+left-by-x p q hp hq h = placed (left (key-less p q hp hq h))
 
 -- "not less" passes on
 pub not-less-trans : (p q r : Point) → 0 < p .d → 0 < q .d → 0 < r .d → isLess (pointOrder p q) ≡ false → isLess (pointOrder q r) ≡ false → isLess (pointOrder p r) ≡ false
@@ -58,10 +58,10 @@ not-less-trans p q r hp hq hr e f = go (pointOrder p r) refl
 module _ (table : List ℤ) (active : List ℕ) (live k key at least : ℕ)
     (hk : key < noKey → Taken table active live k key) (ha : least < noKey → Taken table active live at least) where
   before-key : key < noKey → least < noKey → key < least → pointOrder (meetingAt table active k) (meetingAt table active at) ≡ Less
-  before-key h l s = left-first _ _ (hk h .charted) (ha l .charted) (omega (arith, hk h .is, ha l .is))
+  before-key h l s = left-by-x _ _ (hk h .charted .along) (ha l .charted .along) (omega (arith, hk h .is, ha l .is))
 
   before-least : key < noKey → least < noKey → least < key → pointOrder (meetingAt table active at) (meetingAt table active k) ≡ Less
-  before-least h l s = left-first _ _ (ha l .charted) (hk h .charted) (omega (arith, hk h .is, ha l .is))
+  before-least h l s = left-by-x _ _ (ha l .charted .along) (hk h .charted .along) (omega (arith, hk h .is, ha l .is))
 
   pub newer-key : least ≤ noKey → key < least → Newer table active k key at least true
   newer-key b s = record { take = λ _. (omega arith, λ l. not-back _ _ (before-key (omega arith) l s)); leave = λ e. no-less e }

@@ -127,3 +127,19 @@ pub fn least_lane(table: &[i16], active: &[u8], lanes: &[u32], live: usize) -> u
     }
     at
 }
+
+// Whether the crossing of the lane of place k comes before the end at x, y: by key, exactly where the keys are equal.
+pub fn lane_first(table: &[i16], active: &[u8], k: usize, key: u32, x: i16, y: i16) -> bool
+    requires { ⌜ Taken (now table) (now active) (length (now active)) k key ⌝ }
+    ensures { λ r. ⌜ r ≡ isLess (pointOrder (meetingAt (now (table .entry)) (now (active .entry)) k) (wholeOf x y)) ⌝ }
+{
+    let end = fractions::whole(x, y);
+    let other = key_of(end);
+    if key < other {
+        return true;
+    }
+    if other < key {
+        return false;
+    }
+    less(meeting_at(table, active, k), end)
+}

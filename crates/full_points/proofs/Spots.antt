@@ -42,7 +42,7 @@ from-least {x} h = ≤-cert (x ∷ []) (≤-diff (range-lo h)) (search terms dep
 pub natural-of : {n : ℕ} {z : ℤ} → n ≡ natAbs z → pos 0 ≤ℤ z → pos n ≡ z
 natural-of e h = ap (λ (n : ℕ). pos n) e ∙ natural h
 
-up-to-most : {x : ℤ} → SFits w16 x → (x +ℤ pos 32768) <ℤ pos 65536
+pub up-to-most : {x : ℤ} → SFits w16 x → (x +ℤ pos 32768) <ℤ pos 65536
 up-to-most {x} h = <-cert (x ∷ []) (<-diff (range-hi h)) (search terms depth 60 fits 20000) tt
 
 module _ (s : LineSegment) where
