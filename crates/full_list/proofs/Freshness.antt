@@ -16,7 +16,7 @@ use Rattle.full_steps.specs.InPlace.{fresh-by, fresh}
 use Rattle.full_order.specs.Finer.{finer}
 use Rattle.full_active.specs.Parts.{startsIn}
 use Rattle.ported_pieces.specs.Table.{pieceIn}
-use Rattle.ported_pieces.proofs.Answers.{neither-less}
+use Rattle.ported_heights.proofs.Answers.{neither-less}
 use Rattle.full_list.specs.Listed.{freshIn}
 
 module _ (table : List ℤ) (q : Point) where

@@ -6,6 +6,8 @@ use native.Mathlib.Nat.{pos-of-div-pos}
 use native.Mathlib.Omega.{arith}
 use lib.IntN.{ℤ, pos, negsuc, negℤ, natAbs, _+ℤ_, _-ℤ_, _*ℤ_}
 use lib.Signed.{_≤ℤ_, _<ℤ_}
+use mir.Syntax.{w16}
+use mir.Val.{SFits}
 use Rattle.integers.specs.Size.{Small}
 use Rattle.integers.proofs.Factors.{n/p, p/p}
 use Rattle.integers.proofs.Identity.{terms}
@@ -32,6 +34,7 @@ use Rattle.line_segment.proofs.Lying.{not-after, same-lies}
 use Rattle.line_segment.proofs.Promises.{crossing-is-cramers}
 use Rattle.sweep_geometry.specs.Demand.{Proper}
 use Rattle.full_points.specs.Spot.{Charted, ChartPoint}
+use Rattle.full_points.proofs.Spots.{from-least, up-to-most}
 
 -- ---- a point at most another, by x, and where x is the same by y
 module _ (p q : Point) where
@@ -107,6 +110,10 @@ module _ (x : ℤ) (d : ℕ) (up : 0 < d) (small : d < 2 ^ 33) where
         where
           neg-zero : {z : ℤ} → z ≡ pos 0 → negℤ z ≡ pos 0
           neg-zero e i = negℤ (e i)
+
+-- ---- a coordinate of an end
+pub end-charted : (x : ℤ) → SFits w16 x → Charted x 1
+end-charted x h = charted-by x 1 (omega arith) (omega arith) (from-least h) (up-to-most h)
 
 -- ---- a point on a piece
 module _ (s : LineSegment) (h : Proper s) (p : Point) (up : 0 < p .d) (small : p .d < 2 ^ 33) (on : LiesOn s p) where

@@ -19,6 +19,7 @@ use Rattle.fractions.proofs.Quotient.{quot-times, same-record}
 use Rattle.fractions.proofs.LowestTerms.{is-common, already-lowest}
 use Rattle.full_points.specs.declared.Spot.{Spot}
 use Rattle.full_points.specs.Spot.{Charted, Marks, keyOf}
+use Rattle.full_points.proofs.Spots.{whole-part, rest-part}
 
 -- the key by the whole part and the remainder
 pub key-parts : (X d : ℕ) → 0 < d → X * 32768 / d ≡ X / d * 32768 + X % d * 32768 / d
@@ -58,6 +59,15 @@ module _ (p q : Point) (hp : Charted (p .x) (p .d)) (hq : Charted (q .x) (q .d))
     where
       cert : (x d y e : ℤ) {X Y : ℤ} → X ≡ x +ℤ pos 32768 *ℤ d → Y ≡ y +ℤ pos 32768 *ℤ e → (X *ℤ e) <ℤ (Y *ℤ d) → (x *ℤ e) <ℤ (y *ℤ d)
       cert x d y e f g h = <-cert (x ∷ d ∷ y ∷ e ∷ []) (<-diff (rw (f, g) at h)) (search terms depth 60 fits 20000) tt
+
+-- every key is below 2^31
+pub key-small : (p : Point) → Charted (p .x) (p .d) → keyOf p < 2147483648
+key-small p h =
+    let e = natural (h .from) in
+    let w = whole-part h e in
+    let r = rest-part h e in
+    let k = sym (key-is p e) ∙ key-parts _ (p .d) (h .positive) in
+    omega arith
 
 -- ---- one point, one key and one spot, in lowest terms or not
 abbrev scaled : ℕ → Point → Point

@@ -42,7 +42,7 @@ from-least {x} h = ≤-cert (x ∷ []) (≤-diff (range-lo h)) (search terms dep
 pub natural-of : {n : ℕ} {z : ℤ} → n ≡ natAbs z → pos 0 ≤ℤ z → pos n ≡ z
 natural-of e h = ap (λ (n : ℕ). pos n) e ∙ natural h
 
-up-to-most : {x : ℤ} → SFits w16 x → (x +ℤ pos 32768) <ℤ pos 65536
+pub up-to-most : {x : ℤ} → SFits w16 x → (x +ℤ pos 32768) <ℤ pos 65536
 up-to-most {x} h = <-cert (x ∷ []) (<-diff (range-hi h)) (search terms depth 60 fits 20000) tt
 
 module _ (s : LineSegment) where
@@ -83,12 +83,12 @@ module _ (p : Point) (h : ChartPoint p) {X Y : ℕ} (e : pos X ≡ p .x +ℤ pos
   spot-marks = record { positive = h .along .positive; along = both-parts (h .along) e; up = both-parts (h .up) f }
 
 -- ---- the spot of an end
+pub inside : (z : ℤ) {n : ℕ} → SFits w16 z → pos n ≡ z +ℤ pos 32768 → n < 65536
+inside z h g = <-pos (subst (λ (z : ℤ). z <ℤ pos 65536) (sym g) (up-to-most h))
+
 module _ (x y : ℤ) {X Y : ℕ} (hx : SFits w16 x) (hy : SFits w16 y) (e : pos X ≡ x +ℤ pos 32768) (f : pos Y ≡ y +ℤ pos 32768) where
   abbrev end-spot : Spot
   end-spot = record { wx = X; rx = 0; wy = Y; ry = 0; d = 1 }
-
-  inside : {z : ℤ} {n : ℕ} → SFits w16 z → pos n ≡ z +ℤ pos 32768 → n < 65536
-  inside h g = <-pos (subst (λ (z : ℤ). z <ℤ pos 65536) (sym g) (up-to-most h))
 
   over-one : (z : ℤ) {n : ℕ} → pos n ≡ z +ℤ pos 32768 → pos (n * 1 + 0) *ℤ pos 1 ≡ (z +ℤ pos 32768 *ℤ pos 1) *ℤ pos 1
   over-one z {n} g =
@@ -97,7 +97,7 @@ module _ (x y : ℤ) {X Y : ℕ} (hx : SFits w16 x) (hy : SFits w16 y) (e : pos 
       ∙ by-ring (z ∷ []) (search terms depth 60 fits 20000) tt
 
   pub end-fair : Fair end-spot
-  end-fair = record { wide = inside hx e; tall = inside hy f; rest-x = omega arith; rest-y = omega arith; small = omega arith }
+  end-fair = record { wide = inside x hx e; tall = inside y hy f; rest-x = omega arith; rest-y = omega arith; small = omega arith }
 
   pub end-marks : Marks end-spot (wholeOf x y)
   end-marks = record { positive = omega arith; along = over-one x e; up = over-one y f }

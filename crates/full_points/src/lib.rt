@@ -14,8 +14,8 @@ ghost use Rattle.full_points.specs.Spot.{Charted, ChartPoint, Fair, Mark
 use fractions::Order;
 use fractions::Point;
 use line_segment::LineSegment;
-use line_segment::rise;
-use line_segment::run;
+use segment_crossing::rise;
+use segment_crossing::run;
 
 // x is wx + rx / d and y is wy + ry / d, counted from -32,768.
 pub struct Spot {
@@ -58,7 +58,7 @@ pub fn spot_of(p: Point) -> Spot
 }
 
 // A coordinate of an end, counted from -32,768.
-fn from_least(x: i16) -> u64
+pub fn from_least(x: i16) -> u64
     ensures { λ r. ⌜ pos r ≡ x +ℤ pos 32768 ⌝ }
 {
     (x as i64 + SHIFT) as u64

@@ -27,7 +27,7 @@ use Rattle.full_steps.proofs.Placed.{lo, hi, front-is, back-is, whole-length}
 use Rattle.full_order.specs.Finer.{finer, sidesOf}
 use Rattle.ported_arrays.specs.Insertion.{insert-all}
 use Rattle.ported_pieces.specs.Table.{pieceIn}
-use Rattle.ported_pieces.proofs.Answers.{neither-less}
+use Rattle.ported_heights.proofs.Answers.{neither-less}
 use Rattle.full_active.specs.Parts.{finishesIn}
 use Rattle.full_active.specs.Ranks.{risesIn, goesOnIn, backwards, starters}
 use Rattle.full_active.proofs.Blocks.{block-is, gathered-is, renewed-is}

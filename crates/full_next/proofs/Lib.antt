@@ -1,0 +1,2 @@
+-- Choosing: what each branch of `next_lane` says of the next point.
+pub mod Choosing
