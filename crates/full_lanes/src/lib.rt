@@ -13,10 +13,10 @@ ghost use Rattle.full_lanes.specs.Lanes.{noKey, keyed, laneIn, examined,
 use fractions::Point;
 use full_points::key_of;
 use line_segment::Meeting;
-use segment_crossing::cramer;
-use segment_test::intersect;
 use ported_pieces::less;
 use ported_pieces::piece;
+use segment_crossing::cramer;
+use segment_test::intersect;
 
 // No crossing ahead: above every key.
 pub const NONE: u32 = 4294967295;
