@@ -3,4 +3,5 @@ pub mod Right
 pub mod Sides
 pub mod EvenOdd
 pub mod OnSides
+pub mod Elsewhere
 pub mod Once

@@ -37,14 +37,14 @@ asked true r h e = refl
 asked false r h e = absurd (h e)
 
 -- some number below n is a yes
-some : (f : ℕ → Bool) (n : ℕ) → ltb (first f n) n ≡ true → (i : ℕ) × (i < n) × (f i ≡ true)
+pub some : (f : ℕ → Bool) (n : ℕ) → ltb (first f n) n ≡ true → (i : ℕ) × (i < n) × (f i ≡ true)
 some f n e = go (first f n) (ltb-true _ _ e) (finds f n)
   where
     go : (m : ℕ) → m < n → Finds f n m → (i : ℕ) × (i < n) × (f i ≡ true)
     go m l (at i h b q) = (i, h, q)
     go m l (nowhere b) = absurd (omega arith)
 
-any : (f : ℕ → Bool) (n i : ℕ) → i < n → f i ≡ true → ltb (first f n) n ≡ true
+pub any : (f : ℕ → Bool) (n i : ℕ) → i < n → f i ≡ true → ltb (first f n) n ≡ true
 any f n i h e = go (first f n) (finds f n)
   where
     go : (m : ℕ) → Finds f n m → ltb m n ≡ true

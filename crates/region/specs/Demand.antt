@@ -2,10 +2,11 @@
 use mathlib.Core.Path.{_≡_}
 use mathlib.Core.Bool.{Bool, cond, not, _&&_, _||_}
 use mathlib.Core.Logic.{_↔_}
-use mathlib.Core.List.{List}
-use Prim.Native.Nat.{ℕ, _<_}
+use mathlib.Core.List.{List, [], _∷_, _++_}
+use Prim.Native.Nat.{ℕ, suc, _*_, _<_}
 use lib.Dec.{ltb}
 use lib.IntN.{ℤ}
+use lib.ListN.{length}
 use lib.Signed.{ltZ}
 use Rattle.orientation.specs.Turn.{isLeft}
 use Rattle.fractions.specs.Point.{wholeOf}
@@ -55,3 +56,10 @@ evenOdd outline n p =
 
 abbrev pub EvenOdd : Type 0
 EvenOdd = (outline : List ℤ) (n : ℕ) (p : Corner) → regionOf outline n p ≡ evenOdd outline n p
+
+-- ---- how the outline is given
+-- beginning at the next corner, the first one last, changes no answer; so beginning at any other does not
+abbrev pub BeginsElsewhere : Type 0
+BeginsElsewhere =
+    (a b : ℤ) (rest : List ℤ) (n : ℕ) (p : Corner) → length rest ≡ 2 * n
+    → regionOf (rest ++ (a ∷ b ∷ [])) (suc n) p ≡ regionOf (a ∷ b ∷ rest) (suc n) p
