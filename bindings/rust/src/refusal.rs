@@ -21,7 +21,7 @@ pub enum Fault {
 }
 
 impl Fault {
-  pub const ALL: [Fault; 10] = [
+  pub const ALL: [Fault; 11] = [
     Fault::FileEnds,
     Fault::Groups,
     Fault::Count,
