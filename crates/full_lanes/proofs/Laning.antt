@@ -19,7 +19,7 @@ use Rattle.sweep.specs.Sought.{is-crossing}
 use Rattle.ported_pieces.specs.Table.{pieceIn, roughAt}
 use Rattle.ported_pieces.proofs.Crossings.{alike-rough}
 use Rattle.full_steps.specs.InPlace.{lane}
-use Rattle.full_order.specs.Finer.{finer, sidesOf}
+use Rattle.full_order.specs.Finer.{finer}
 use Rattle.full_points.specs.Spot.{keyOf}
 use Rattle.full_points.proofs.Keys.{key-lowest}
 use Rattle.full_lanes.specs.Lanes.{noKey, keyed, laneIn, pairAt, examined, meetingAt}
@@ -52,7 +52,7 @@ module _ (table : List ℤ) (i j : ℕ) (p : Point) where
       go false c = refl
 
 -- however many pieces the chart has
-pub lane-any : (n : ℕ) (table : List ℤ) (p : Point) (q : Pair) → laneIn table p q ≡ lane (finer n (pieceIn table)) (sidesOf n (pieceIn table)) (some p) q
+pub lane-any : (n : ℕ) (table : List ℤ) (p : Point) (q : Pair) → laneIn table p q ≡ lane (finer n (pieceIn table)) (some p) q
 unfolding laneIn lane beyond
 lane-any n table p q = refl
 

@@ -28,7 +28,7 @@ use Rattle.sweep_geometry.specs.Demand.{Proper}
 use Rattle.ported_pieces.specs.Table.{pieceIn, roughAt}
 use Rattle.ported_pieces.proofs.Crossings.{rough-before, alike-rough}
 use Rattle.full_steps.specs.InPlace.{lane, lanes, somes}
-use Rattle.full_order.specs.Finer.{finer, sidesOf}
+use Rattle.full_order.specs.Finer.{finer}
 use Rattle.full_points.specs.Spot.{keyOf}
 use Rattle.full_points.proofs.Keys.{key-small}
 use Rattle.full_points.proofs.Crossing.{cramer-charted}
@@ -39,7 +39,7 @@ use Rattle.full_lanes.proofs.Laning.{the-key}
 -- ---- a lane that is taken
 module _ (n : ℕ) (table : List ℤ) (last : Option Point) (q : Pair) where
   abbrev C-lane : Option Point
-  C-lane = lane (finer n (pieceIn table)) (sidesOf n (pieceIn table)) last q
+  C-lane = lane (finer n (pieceIn table)) last q
 
   record Open : Type 0 where
     crosses : intersectOf (pieceIn table (q .0)) (pieceIn table (q .1)) ≡ Crossing
@@ -167,17 +167,17 @@ module _ (n : ℕ) (table : List ℤ) (last : Option Point) (active keys : List 
   ahead-in : (k : ℕ) {c : Point} → k + 1 < live → C-lane n table last (pairAt active k) ≡ some c → In c (ahead n table last active keys live)
   unfolding lanes
   ahead-in k h e =
-      somes-in (lane (finer n (pieceIn table)) (sidesOf n (pieceIn table)) last) (adjacent (take live active))
+      somes-in (lane (finer n (pieceIn table)) last) (adjacent (take live active))
       (adjacent-in (take live active) k (omega (arith, length-take-le live active (B .places))))
-      (ap (lane (finer n (pieceIn table)) (sidesOf n (pieceIn table)) last) (same-pair k h) ∙ e)
+      (ap (lane (finer n (pieceIn table)) last) (same-pair k h) ∙ e)
 
   ahead-out : {c : Point} → In c (ahead n table last active keys live) → (k : ℕ) × (k + 1 < live) × (C-lane n table last (pairAt active k) ≡ some c)
   unfolding lanes
   ahead-out m =
-      let s = somes-out (lane (finer n (pieceIn table)) (sidesOf n (pieceIn table)) last) (adjacent (take live active)) m in
+      let s = somes-out (lane (finer n (pieceIn table)) last) (adjacent (take live active)) m in
       let a = adjacent-out (take live active) (s .1) in
       let h : a .0 + 1 < live = omega (arith, a .1, length-take-le live active (B .places)) in
-      (a .0, h, ap (lane (finer n (pieceIn table)) (sidesOf n (pieceIn table)) last) (sym (same-pair (a .0) h) ∙ sym (a .2)) ∙ s .2)
+      (a .0, h, ap (lane (finer n (pieceIn table)) last) (sym (same-pair (a .0) h) ∙ sym (a .2)) ∙ s .2)
 
   -- a crossing ahead has a key, so its place is taken
   has-key : (k : ℕ) {c : Point} → k + 1 < live → C-lane n table last (pairAt active k) ≡ some c → getD keys k 0 < noKey

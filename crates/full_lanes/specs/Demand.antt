@@ -13,7 +13,7 @@ use Rattle.sweep.specs.Chart.{at}
 use Rattle.sweep.specs.Ported.{isLess}
 use Rattle.ported_pieces.specs.Table.{pieceIn}
 use Rattle.full_steps.specs.InPlace.{lane, lanes, somes}
-use Rattle.full_order.specs.Finer.{finer, sidesOf}
+use Rattle.full_order.specs.Finer.{finer}
 use Rattle.full_lanes.specs.Lanes.{noKey, keyed, pairAt, ProperPlaces, Keyed, LeastLane}
 
 module _ (n : ℕ) (table : List ℤ) (last : Option Point) (active keys : List ℕ) (live : ℕ) where
@@ -21,12 +21,12 @@ module _ (n : ℕ) (table : List ℤ) (last : Option Point) (active keys : List 
   pub record Beside : Type 0 where
     pub room : live ≤ length keys
     pub places : live ≤ length active
-    pub lanes-are : (k : ℕ) → k + 1 < live → getD keys k 0 ≡ keyed (lane (finer n (pieceIn table)) (sidesOf n (pieceIn table)) last (pairAt active k))
+    pub lanes-are : (k : ℕ) → k + 1 < live → getD keys k 0 ≡ keyed (lane (finer n (pieceIn table)) last (pairAt active k))
     pub end : (k : ℕ) → k + 1 ≡ live → getD keys k 0 ≡ noKey
 
   -- the crossings that the lanes hold
   abbrev pub ahead : List Point
-  ahead = somes (lanes (finer n (pieceIn table)) (sidesOf n (pieceIn table)) last (take live active))
+  ahead = somes (lanes (finer n (pieceIn table)) last (take live active))
 
   -- what the least lane says of them: there is none, or it is one than which none comes earlier
   pub record LeastAhead (r : ℕ) : Type 0 where

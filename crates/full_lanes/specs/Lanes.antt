@@ -14,7 +14,7 @@ use Rattle.sweep.specs.Ported.{isLess}
 use Rattle.sweep_geometry.specs.Demand.{Proper}
 use Rattle.ported_pieces.specs.Table.{pieceIn, roughAt}
 use Rattle.full_steps.specs.InPlace.{lane}
-use Rattle.full_order.specs.Finer.{finer, sidesOf}
+use Rattle.full_order.specs.Finer.{finer}
 use Rattle.full_points.specs.Spot.{ChartPoint, keyOf}
 
 -- no crossing ahead: above every key
@@ -27,7 +27,7 @@ keyed (some c) = keyOf c
 
 -- the lane of two pieces beyond p; how many others there are does not matter
 unfoldable pub laneIn : List ℤ → Point → Pair → Option Point
-laneIn table p q = lane (finer 0 (pieceIn table)) (sidesOf 0 (pieceIn table)) (some p) q
+laneIn table p q = lane (finer 0 (pieceIn table)) (some p) q
 
 -- the pieces at places k and k + 1
 unfoldable pub pairAt : List ℕ → ℕ → Pair
