@@ -9,7 +9,7 @@ use lib.ListN.{length, getD, set, take, length-append}
 use lib.Seq.{sets, slice, slice-cons, slice-empty}
 use Rattle.sweep.specs.Lists.{Pair, keep, pairs}
 use Rattle.sweep.proofs.Lists.{keep-append, keep-yes, keep-no}
-use Rattle.naive.proofs.Writes.{sets-append}
+use Rattle.charts.proofs.Stores.{sets-append}
 use Rattle.ported_arrays.specs.Agreement.{flat}
 use Rattle.ported_arrays.proofs.Flat.{flat-append}
 use Rattle.full_list.specs.Listed.{partners, Listed}
