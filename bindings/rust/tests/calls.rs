@@ -198,3 +198,47 @@ fn supplied_lists() {
   assert_eq!(check(&gap[1..], &[1]).unwrap_err().fault, Fault::ListLength);
   assert_eq!(check(&[], &[]), Ok(Checked::Accepted));
 }
+
+/// A diamond, whose corners stand at the height of its middle.
+#[test]
+fn regions() {
+  let diamond = [0, 0, 2, -2, 4, 0, 2, 2];
+  let square = [0, 0, 4, 0, 4, 4, 0, 4];
+  let said: [(&[i32], [i32; 2], Region); 9] = [
+    (&square, [2, 2], Region::Inside),
+    (&square, [5, 2], Region::Outside),
+    (&square, [-1, 4], Region::Outside),
+    (&square, [4, 2], Region::On),
+    (&square, [0, 0], Region::On),
+    (&diamond, [1, 0], Region::Inside),
+    (&diamond, [-1, 0], Region::Outside),
+    (&diamond, [3, 1], Region::On),
+    (&diamond, [3, 2], Region::Outside),
+  ];
+  for (outline, peak, due) in said {
+    assert_eq!(region(outline, peak), Ok(due), "{outline:?} {peak:?}");
+  }
+  let refused = |outline: &[i32], peak| region(outline, peak).map_err(|r| (r.fault, r.place, r.given)).unwrap_err();
+  assert_eq!(refused(&square[1..], [2, 2]), (Fault::Outline, 0, Given::Outline));
+  assert_eq!(refused(&square[..4], [2, 2]), (Fault::Outline, 0, Given::Outline));
+  assert_eq!(refused(&[0, 0, 4, 0, 32768, 4], [2, 2]), (Fault::Coordinate, 2, Given::Outline));
+  assert_eq!(refused(&[0, 0, 4, 0, 0, 0], [2, 2]), (Fault::NoLength, 2, Given::Outline));
+  assert_eq!(refused(&square, [32767, 2]), (Fault::Coordinate, 0, Given::Outline));
+  assert_eq!(region(&square, [32766, 2]), Ok(Region::Outside));
+}
+
+/// The half-line to the right of the origin: through the piece, past it, by an end above, below and along it.
+#[test]
+fn half_lines() {
+  let right = |piece| half_line(piece, [0, 0], [1, 0]);
+  assert_eq!(right([3, 2, -1, 2, 1]), Ok(Some(Orientation::CoLinear)));
+  assert_eq!(right([3, -2, -1, -2, 1]), Ok(None));
+  assert_eq!(right([3, 2, 0, 2, 3]), Ok(Some(Orientation::CounterClockWise)));
+  assert_eq!(right([3, 2, 0, 2, -3]), Ok(Some(Orientation::ClockWise)));
+  assert_eq!(right([3, 2, 0, 5, 0]), Ok(None));
+  let refused = |piece, through| half_line(piece, [0, 0], through).map_err(|r| (r.fault, r.place, r.given)).unwrap_err();
+  assert_eq!(refused([4, 2, -1, 2, 1], [0, 0]), (Fault::Kind, 0, Given::HalfLine));
+  assert_eq!(refused([3, 2, 1, 2, 1], [0, 0]), (Fault::NoLength, 0, Given::HalfLine));
+  assert_eq!(refused([3, 2, -1, 2, 1], [40000, 0]), (Fault::Coordinate, 0, Given::HalfLine));
+  assert_eq!(refused([3, 2, -1, 2, 1], [0, 0]), (Fault::NoLength, 0, Given::HalfLine));
+}

@@ -16,3 +16,4 @@ pub mod Heights
 pub mod Useless
 pub mod OnePlace
 pub mod Signs
+pub mod Supplied

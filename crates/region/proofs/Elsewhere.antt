@@ -20,27 +20,40 @@ use Rattle.region.specs.Demand.{BeginsElsewhere}
 use Rattle.region.proofs.OnSides.{some, any}
 
 -- the next of n + 1 corners
-next-more : (n i : ℕ) → i < n → nextOf (suc n) i ≡ suc i
+pub next-more : (n i : ℕ) → i < n → nextOf (suc n) i ≡ suc i
 unfolding nextOf
 next-more n i h = rw (lt-ltb (i + 1) (suc n) (omega arith)) (omega arith)
 
-next-last : (n : ℕ) → nextOf (suc n) n ≡ 0
+pub next-last : (n : ℕ) → nextOf (suc n) n ≡ 0
 unfolding nextOf
 next-last n = rw (le-ltb (n + 1) (suc n) (omega arith))
 
 -- ---- counting in the other order
-abbrev one : Bool → ℕ
+abbrev pub one : Bool → ℕ
 one b = cond b 1 0
 
-shifted : (f : ℕ → Bool) (n : ℕ) → count (λ i. f (suc i)) n + one (f 0) ≡ count f (suc n)
+pub shifted : (f : ℕ → Bool) (n : ℕ) → count (λ i. f (suc i)) n + one (f 0) ≡ count f (suc n)
 unfolding count
 shifted f zero = refl
 shifted f (suc n) = let e = shifted f n in omega (arith, e)
 
-same-below : (f g : ℕ → Bool) (n : ℕ) → ((i : ℕ) → i < n → f i ≡ g i) → count f n ≡ count g n
+pub same-below : (f g : ℕ → Bool) (n : ℕ) → ((i : ℕ) → i < n → f i ≡ g i) → count f n ≡ count g n
 unfolding count
 same-below f g zero h = refl
 same-below f g (suc n) h = ap₂ (λ (k : ℕ) (b : Bool). k + one b) (same-below f g n (λ i l. h i (omega arith))) (h n (omega arith))
+
+-- some side of the one says yes exactly where some side of the other does
+pub alike : (f g : ℕ → Bool) (n : ℕ)
+    → ((i : ℕ) → i < n → g i ≡ true → (j : ℕ) × (j < n) × (f j ≡ true))
+    → ((j : ℕ) → j < n → f j ≡ true → (i : ℕ) × (i < n) × (g i ≡ true))
+    → ltb (first g n) n ≡ ltb (first f n) n
+alike f g n there back = go (ltb (first g n) n) (ltb (first f n) n) refl refl
+  where
+    go : (b c : Bool) → ltb (first g n) n ≡ b → ltb (first f n) n ≡ c → b ≡ c
+    go true true e k = refl
+    go false false e k = refl
+    go true false e k = let s = some g n e in let t = there (s .0) (s .1) (s .2) in clash (sym k ∙ any f n (t .0) (t .1) (t .2))
+    go false true e k = let s = some f n k in let t = back (s .0) (s .1) (s .2) in clash (sym e ∙ any g n (t .0) (t .1) (t .2))
 
 module _ (f g : ℕ → Bool) (n : ℕ) (h : (i : ℕ) → i < suc n → g i ≡ f (nextOf (suc n) i)) where
   count-moved : count g (suc n) ≡ count f (suc n)
@@ -57,13 +70,7 @@ module _ (f g : ℕ → Bool) (n : ℕ) (h : (i : ℕ) → i < suc n → g i ≡
   back (suc j) l e = (j, omega arith, h j (omega arith) ∙ ap f (next-more n j (omega arith)) ∙ e)
 
   some-moved : ltb (first g (suc n)) (suc n) ≡ ltb (first f (suc n)) (suc n)
-  some-moved = go (ltb (first g (suc n)) (suc n)) (ltb (first f (suc n)) (suc n)) refl refl
-    where
-      go : (b c : Bool) → ltb (first g (suc n)) (suc n) ≡ b → ltb (first f (suc n)) (suc n) ≡ c → b ≡ c
-      go true true e k = refl
-      go false false e k = refl
-      go true false e k = let s = some g (suc n) e in clash (sym k ∙ any f (suc n) (nextOf (suc n) (s .0)) (next-below (suc n) (s .0) (s .1)) (sym (h (s .0) (s .1)) ∙ s .2))
-      go false true e k = let s = some f (suc n) k in let t = back (s .0) (s .1) (s .2) in clash (sym e ∙ any g (suc n) (t .0) (t .1) (t .2))
+  some-moved = alike f g (suc n) (λ i l e. (nextOf (suc n) i, next-below (suc n) i l, sym (h i l) ∙ e)) back
 
 -- ---- the corners
 module _ (a b : ℤ) (rest : List ℤ) (n : ℕ) (e : length rest ≡ 2 * n) where

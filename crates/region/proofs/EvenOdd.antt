@@ -29,7 +29,7 @@ use Rattle.region.specs.Demand.{above, rises, crossesRight, CountsHalfOp
 height₀ : (x y u v : ℤ) → (x +ℤ pos 1 -ℤ x) *ℤ (v -ℤ y) -ℤ (y -ℤ y) *ℤ (u -ℤ x) ≡ v -ℤ y
 height₀ x y u v = by-ring (x ∷ y ∷ u ∷ v ∷ []) (search terms depth 60 fits 20000) tt
 
-height : (p e : Corner) → pointTurn p (rightOf p) e ≡ turnOf (e .y -ℤ p .y)
+pub height : (p e : Corner) → pointTurn p (rightOf p) e ≡ turnOf (e .y -ℤ p .y)
 unfolding pointTurn det
 height p e = ap turnOf (height₀ (p .x) (p .y) (e .x) (e .y))
 
@@ -61,7 +61,7 @@ unfolding pointTurn det
 turned a b p = ap turnOf (turned₀ (a .x) (a .y) (b .x) (b .y) (p .x) (p .y)) ∙ turn-neg _
 
 -- ---- the rules by the three turns: of the min, of the max, and of the peak to the way from min to max
-abbrev rust : Orientation → Orientation → Orientation → Orientation → IHalfLineLineSegmentSoS
+abbrev pub rust : Orientation → Orientation → Orientation → Orientation → IHalfLineLineSegmentSoS
 rust o q t u =
     cond (isStraight o && isStraight q) Nothing
     (cond (isStraight o) (leansOf q t)

@@ -4,4 +4,6 @@ pub mod Sides
 pub mod EvenOdd
 pub mod OnSides
 pub mod Elsewhere
+pub mod Round
+pub mod Senses
 pub mod Once

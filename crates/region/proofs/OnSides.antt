@@ -55,14 +55,14 @@ module _ (outline : List ℤ) (x y : ℤ) (n : ℕ) (e : verdictOf outline x y �
   peak : wholeOf (cornerAt x y .x) (cornerAt x y .y) ≡ wholeOf x y
   peak = let k = peak-as-given outline x y n e in ap₂ wholeOf (k .0) (k .1)
 
-  answer : regionAnswerOf outline x y .region ≡ regionOf outline n (cornerAt x y)
+  pub answer : regionAnswerOf outline x y .region ≡ regionOf outline n (cornerAt x y)
   unfolding regionAnswerOf
   answer = rw e
 
   bounded : Bounded (wholeOf x y)
   bounded = let k = peak-small outline x y e in record { d-small = omega arith; x-small = k .0; y-small = k .1 }
 
-  held : (i : ℕ) → i < n → (onSide outline n (cornerAt x y) i ≡ true) ↔ LiesOn (sideOf outline n i) (wholeOf x y)
+  pub held : (i : ℕ) → i < n → (onSide outline n (cornerAt x y) i ≡ true) ↔ LiesOn (sideOf outline n i) (wholeOf x y)
   unfolding onSide
   held i l =
       let k = contains-exactly (sideOf outline n i) (wholeOf x y) (sides-have-length outline x y n i e l) (omega arith) bounded in

@@ -1,6 +1,6 @@
 -- What is promised of a region's answer. Each statement is a type, inhabited in proofs/.
 use mathlib.Core.Path.{_≡_}
-use mathlib.Core.Bool.{Bool, cond, not, _&&_, _||_}
+use mathlib.Core.Bool.{Bool, false, cond, not, _&&_, _||_}
 use mathlib.Core.Logic.{_↔_}
 use mathlib.Core.List.{List, [], _∷_, _++_}
 use Prim.Native.Nat.{ℕ, suc, _*_, _<_}
@@ -8,12 +8,15 @@ use lib.Dec.{ltb}
 use lib.IntN.{ℤ}
 use lib.ListN.{length}
 use lib.Signed.{ltZ}
-use Rattle.orientation.specs.Turn.{isLeft}
+use Rattle.orientation.specs.Turn.{isLeft, isRight, isStraight}
 use Rattle.fractions.specs.Point.{wholeOf}
 use Rattle.line_segment.specs.declared.LineSegment.{LineSegment}
 use Rattle.line_segment.specs.Geometry.{LiesOn}
 use Rattle.half_line.specs.declared.Corner.{Corner}
+use Rattle.half_line.specs.declared.IHalfLineLineSegmentSoS.{IHalfLineLineSegmentSoS}
+use Rattle.half_line.specs.declared.IHalfLineLineSegmentSoS.the-variants.{Nothing, Crossing}
 use Rattle.half_line.specs.HalfLine.{cornerOf, pointTurn, halfLineOf}
+use Rattle.half_line.specs.Call.{cornerAt}
 use Rattle.charts.specs.declared.Verdict.{Verdict}
 use Rattle.charts.specs.declared.Verdict.the-variants.{Accepted}
 use Rattle.outline.specs.Counting.{first, count}
@@ -63,3 +66,30 @@ abbrev pub BeginsElsewhere : Type 0
 BeginsElsewhere =
     (a b : ℤ) (rest : List ℤ) (n : ℕ) (p : Corner) → length rest ≡ 2 * n
     → regionOf (rest ++ (a ∷ b ∷ [])) (suc n) p ≡ regionOf (a ∷ b ∷ rest) (suc n) p
+
+-- the corners in the other order
+unfoldable pub round : List ℤ → List ℤ
+round [] = []
+round (a ∷ []) = a ∷ []
+round (a ∷ b ∷ rest) = round rest ++ (a ∷ b ∷ [])
+
+-- turning the outline round changes no answer
+abbrev pub TurnsRound : Type 0
+TurnsRound = (outline : List ℤ) (n : ℕ) (p : Corner) → length outline ≡ 2 * n → regionOf (round outline) n p ≡ regionOf outline n p
+
+-- ---- the two senses
+-- an answer as it counts where `ClockWise` is asked for instead of `CounterClockWise`
+abbrev pub countedOther : IHalfLineLineSegmentSoS → Bool
+countedOther Nothing = false
+countedOther (Crossing o) = isStraight o || isRight o
+
+unfoldable pub otherSense : List ℤ → ℕ → Corner → Region
+otherSense outline n p =
+    cond (ltb (first (onSide outline n p) n) n) Region.On
+    (parity (count (λ i. countedOther (halfLineOf p (rightOf p) (sideOf outline n i))) n))
+
+-- exchanging them changes no answer of an accepted outline: a corner to the right of the peak at its height belongs to two sides
+abbrev pub SensesExchanged : Type 0
+SensesExchanged =
+    (outline : List ℤ) (x y : ℤ) (n : ℕ) → verdictOf outline x y ≡ Accepted n
+    → otherSense outline n (cornerAt x y) ≡ regionAnswerOf outline x y .region
