@@ -272,8 +272,21 @@ static void answers_of_sweep(void) {
     CHECK(upright.visited);
     CHECK(upright.x == 5 && upright.y == 6 && upright.d == 1);
 
+    memset(pairs, KEPT, sizeof pairs);
+    mirtalughe_swept full = mirtalughe_full_sweep(gap, LENGTH(gap), UINT32_MAX, pairs, MIRTALUGHE_PAIRS_ROOM(3));
+    CHECK(full.number == MIRTALUGHE_DONE && full.place == 0);
+    CHECK(full.pairs == 2);
+    CHECK(full.steps == 8);
+    CHECK(full.ended);
+    CHECK(full.complete);
+    CHECK(full.visited);
+    CHECK(full.x == 5 && full.y == 6 && full.d == 1);
+    CHECK(pairs[0] == 0 && pairs[1] == 1 && pairs[2] == 0 && pairs[3] == 2 && pairs[4] == KEPT);
+
     is_refused(mirtalughe_sweep(no_length, LENGTH(no_length), 9, pairs, 2), MIRTALUGHE_NO_LENGTH, 1);
     is_refused(mirtalughe_sweep(crossing, LENGTH(crossing), 9, pairs, 1), MIRTALUGHE_ROOM, 0);
+    is_refused(mirtalughe_full_sweep(no_length, LENGTH(no_length), 9, pairs, 2), MIRTALUGHE_NO_LENGTH, 1);
+    is_refused(mirtalughe_full_sweep(crossing, LENGTH(crossing), 9, pairs, 1), MIRTALUGHE_ROOM, 0);
 }
 
 static void numbers(void) {
@@ -355,6 +368,9 @@ static void sizes(void) {
     CHECK(mirtalughe_sweep(list, most, UINT32_MAX, pairs, room).pairs == MIRTALUGHE_MOST_PAIRS);
     CHECK(mirtalughe_sweep(list, most, UINT32_MAX, pairs, room).steps == MIRTALUGHE_MOST_STEPS);
     CHECK(!mirtalughe_sweep(list, most, MIRTALUGHE_MOST_STEPS - 1, pairs, room).ended);
+    CHECK(mirtalughe_full_sweep(list, most, UINT32_MAX, pairs, room).pairs == MIRTALUGHE_MOST_PAIRS);
+    CHECK(mirtalughe_full_sweep(list, most, MIRTALUGHE_MOST_STEPS, pairs, room).steps == MIRTALUGHE_MOST_STEPS);
+    CHECK(!mirtalughe_full_sweep(list, most, MIRTALUGHE_MOST_STEPS - 1, pairs, room).ended);
     CHECK(mirtalughe_sweep(list, most, UINT32_MAX, pairs, room - 1).number == MIRTALUGHE_ROOM);
     CHECK(mirtalughe_all_pairs(list, most, pairs, room - 1).number == MIRTALUGHE_ROOM);
     list[1] = -MIRTALUGHE_LIMIT - 1;
@@ -379,6 +395,7 @@ static void null(void) {
     CHECK(mirtalughe_all_pairs(NULL, 0, NULL, 0).number == MIRTALUGHE_DONE);
     CHECK(mirtalughe_all_pairs(crossing, MIRTALUGHE_PIECE_NUMBERS, NULL, 0).number == MIRTALUGHE_DONE);
     CHECK(mirtalughe_sweep(NULL, 0, 0, NULL, 0).ended);
+    CHECK(mirtalughe_full_sweep(NULL, 0, 0, NULL, 0).ended);
     CHECK(mirtalughe_check(NULL, 0, NULL, 0).says == MIRTALUGHE_ACCEPTED);
     CHECK(mirtalughe_sweep(crossing, MIRTALUGHE_PIECE_NUMBERS, UINT32_MAX, NULL, 0).steps == 2);
 }

@@ -48,6 +48,10 @@ static void sweep(void) {
     wrong |= mirtalughe_sweep(list, MIRTALUGHE_LIST_ROOM, UINT32_MAX, pairs, sizeof pairs).pairs != MIRTALUGHE_MOST_PAIRS;
 }
 
+static void full_sweep(void) {
+    wrong |= mirtalughe_full_sweep(list, MIRTALUGHE_LIST_ROOM, UINT32_MAX, pairs, sizeof pairs).pairs != MIRTALUGHE_MOST_PAIRS;
+}
+
 static void check(void) {
     wrong |= mirtalughe_check(list, MIRTALUGHE_LIST_ROOM, pairs, sizeof pairs).says != MIRTALUGHE_ACCEPTED;
 }
@@ -91,7 +95,7 @@ int main(void) {
         {"mirtalughe_read", read},       {"mirtalughe_orient", orient}, {"mirtalughe_compare_points", compare_points},
         {"mirtalughe_meeting", meeting}, {"mirtalughe_place", place},   {"mirtalughe_all_pairs", all_pairs},
         {"mirtalughe_sweep", sweep},     {"mirtalughe_write", write},
-        {"mirtalughe_check", check},
+        {"mirtalughe_full_sweep", full_sweep}, {"mirtalughe_check", check},
         {"mirtalughe_region", region},   {"mirtalughe_half_line", half_line},
     };
     largest();

@@ -27,6 +27,10 @@ SWEEP = """
 bentley_ottmann/specs/Swept:sweepOf what is read
 bentley_ottmann/specs/Swept:lentAfter what is read
 """
+FULL = """
+full_sweep/specs/Swept:sweepOf what is read
+full_sweep/specs/Swept:lentAfter what is read
+"""
 PAIRS = """
 naive/specs/AllPairs:allPairsOf what is read
 naive/specs/AllPairs:lentAfter what is read
@@ -104,7 +108,13 @@ naive/specs/AllPairs:pairsOf `ListsExactly` of naive
         "promises/specs/Chart:NoneUpright",
         LISTS + SWEEP + PAIRS + "charts/specs/Demand:ListingDue ListingRefusesExactly",
     ),
+    (
+        "3, the new mode",
+        "full_promises/specs/Sweep:FullPromises,Full",
+        LISTS + SWEEP + FULL + PAIRS + "charts/specs/Demand:ListingDue ListingRefusesExactly",
+    ),
     ("the steps of the sweep", "bentley_ottmann/specs/Swept:sweepOf,lentAfter", LISTS + TEST),
+    ("the steps of the new mode", "full_sweep/specs/Swept:sweepOf,lentAfter", LISTS + TEST),
     (
         "the listing",
         "listing/specs/Listing:listingAnswer,lentAfter units/specs/Demand:LowExactly,HighExactly,EqualWhenWhole decimals/specs/Demand:ReadsBack",

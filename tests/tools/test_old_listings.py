@@ -55,7 +55,7 @@ class NeitherSideIsRoundedAway(unittest.TestCase):
 
     def test_moved(self):
         before = kept("until_2026-04")
-        moved = lines_moved("2026-04", before, today())
+        moved = lines_moved("2026-04", before, kept("until_2026-02"))
         self.assertEqual(len(moved), sum(" at " in line for line in before))
         self.assertEqual(len(moved), 1619)
         whole = 0
@@ -69,6 +69,32 @@ class NeitherSideIsRoundedAway(unittest.TestCase):
                 self.assertIn(high - low, (0, 1))
                 whole += low == high
         print(f"  {whole:,} of their {2 * len(moved):,} values are whole")
+
+
+def charts(lines):
+    """Each chart's listing, as a list of lines."""
+    begins = [i for i, line in enumerate(lines) if line.startswith("chart ")] + [len(lines)]
+    return [lines[a:b] for a, b in zip(begins, begins[1:])]
+
+
+class UprightsInFull(unittest.TestCase):
+    """2026-02: the listing of a chart without upright pieces is the old one; with them it is complete, and the old pairs
+    stand in it in their order, beside those that were lost."""
+
+    def test_moved(self):
+        before = charts(kept("until_2026-02"))
+        upright = lost = 0
+        for old, new in zip(before, charts(today())):
+            if old[1] == "complete yes":
+                self.assertEqual(new, old)
+                continue
+            upright += 1
+            self.assertEqual(new[:2], [old[0], "complete yes"])
+            left = iter(new[2:-1])
+            self.assertTrue(all(pair in left for pair in old[2:-1]), old)
+            lost += len(new) - len(old)
+        print(f"2026-02: {upright} of {len(before)} charts have upright pieces; {lost} pairs of theirs were lost")
+        self.assertEqual((len(before), upright, lost), (283, 104, 22))
 
 
 if __name__ == "__main__":

@@ -12,6 +12,13 @@ unsafe extern "C" {
   pub fn mirtalughe_meeting(list: *const i32, length: usize) -> Met;
   pub fn mirtalughe_place(list: *const i32, length: usize) -> Placed;
   pub fn mirtalughe_all_pairs(list: *const i32, length: usize, pairs: *mut u8, lent: usize) -> Answer;
+  pub fn mirtalughe_full_sweep(
+    list: *const i32,
+    length: usize,
+    budget: u32,
+    pairs: *mut u8,
+    lent: usize,
+  ) -> Swept;
   pub fn mirtalughe_sweep(list: *const i32, length: usize, budget: u32, pairs: *mut u8, lent: usize)
   -> Swept;
   pub fn mirtalughe_check(list: *const i32, length: usize, pairs: *const u8, size: usize) -> Checked;

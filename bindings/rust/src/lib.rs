@@ -4,11 +4,11 @@
 //! if the second is. Coordinates run from -[`LIMIT`] to [`LIMIT`], and a chart has at most [`MOST_PIECES`] pieces.
 //!
 //! ```
-//! use mirtalughe::{Place, PlacePoint, place, sweep};
+//! use mirtalughe::{Place, PlacePoint, full_sweep, place};
 //!
 //! let list = [3, 0, 0, 4, 4, 3, 0, 4, 4, 0];
 //! let mut lent = [0; 2];
-//! assert_eq!(sweep(&list, u32::MAX, &mut lent)?.pairs, [[0, 1]]);
+//! assert_eq!(full_sweep(&list, u32::MAX, &mut lent)?.pairs, [[0, 1]]);
 //! assert_eq!(place(&list)?, Place::At(PlacePoint { x: 2.0, y: 2.0 }));
 //! # Ok::<(), mirtalughe::Refusal>(())
 //! ```
@@ -126,7 +126,8 @@ pub struct Swept<'a> {
   pub steps: u32,
   /// Whether no point is left to visit.
   pub ended: bool,
-  /// Whether no piece is upright. A sweep that has ended has then listed every pair that meets.
+  /// Of [`full_sweep`] always, of [`sweep`] whether no piece is upright. A sweep that has ended has then listed every
+  /// pair that meets.
   pub complete: bool,
   /// The last point visited.
   pub last: Option<Point>,
@@ -231,6 +232,20 @@ pub fn all_pairs<'a>(list: &[i32], lent: &'a mut [u8]) -> Result<&'a [Pair], Ref
   Ok(&lent.as_chunks().0[..count])
 }
 
+/// Sweeps a chart's pieces from left to right for at most `budget` steps, a visited point each, and lists the pairs that
+/// meet in lent bytes, by their first common points, then the lesser number, then the greater. Wherever it stops, no pair
+/// is missing whose first common point is at or before the last point visited. At least [`pairs_room`] of its pieces is
+/// to be lent; bytes past the last pair keep their values. This is the sweep to call, unless the answers have to be
+/// the Rust's.
+pub fn full_sweep<'a>(list: &[i32], budget: u32, lent: &'a mut [u8]) -> Result<Swept<'a>, Refusal> {
+  // SAFETY: both pointers are good for their lengths, and the lent bytes are borrowed alone.
+  let swept =
+    unsafe { calls::mirtalughe_full_sweep(list.as_ptr(), list.len(), budget, lent.as_mut_ptr(), lent.len()) };
+  told(swept, lent)
+}
+
+/// Sweeps as the Rust does, step by step. Where no piece is upright the answer is that of [`full_sweep`], at every budget;
+/// with upright pieces some pairs may be missing, and it is not complete.
 /// Sweeps a chart's pieces from left to right for at most `budget` steps, a visited point each, and lists pairs that
 /// meet in lent bytes, where no piece is upright by their first common point. At least [`pairs_room`] of its pieces is to be lent; bytes past the
 /// last pair keep their values.
@@ -238,6 +253,11 @@ pub fn sweep<'a>(list: &[i32], budget: u32, lent: &'a mut [u8]) -> Result<Swept<
   // SAFETY: both pointers are good for their lengths, and the lent bytes are borrowed alone.
   let swept =
     unsafe { calls::mirtalughe_sweep(list.as_ptr(), list.len(), budget, lent.as_mut_ptr(), lent.len()) };
+  told(swept, lent)
+}
+
+/// What a sweep told, with the pairs that it left.
+fn told(swept: calls::Swept, lent: &[u8]) -> Result<Swept<'_>, Refusal> {
   refusal::check(swept.number, swept.place, Given::List)?;
   Ok(Swept {
     pairs: &lent.as_chunks().0[..swept.pairs],

@@ -126,6 +126,9 @@ fn sweep_step_by_step() {
   for budget in 0..=6 {
     let mut lent = [9; 3];
     let swept = sweep(&FIRST, budget, &mut lent).unwrap();
+    let mut full = [9; 3];
+    assert_eq!(full_sweep(&FIRST, budget, &mut full), Ok(swept));
+    assert_eq!(full, if budget < 3 { [9; 3] } else { [0, 1, 9] });
     let steps = budget.min(5);
     let last = steps.checked_sub(1).map(|i| visited[i as usize]).map(|(x, y)| Point { x, y, d: 1 });
     let pairs: &[Pair] = if budget < 3 { &[] } else { &[[0, 1]] };
@@ -141,9 +144,10 @@ fn sweep_of_a_fraction_and_of_nothing() {
   assert_eq!(sweep(&thirds, 3, &mut lent).unwrap().last, Some(Point { x: 2, y: 2, d: 3 }));
   let none = Swept { pairs: &[], steps: 0, ended: true, complete: true, last: None };
   assert_eq!(sweep(&[], 0, &mut []), Ok(none));
+  assert_eq!(full_sweep(&[], 0, &mut []), Ok(none));
 }
 
-/// The upright gap: the sweep, as in the Rust, lists only one of the two pairs that meet, and says so.
+/// The upright gap: the sweep, as in the Rust, lists only one of the two pairs that meet, and says so; the full sweep both.
 #[test]
 fn sweep_with_an_upright_piece() {
   let gap = [[3, 0, 0, 0, 10], [3, -5, 3, 5, 3], [3, -5, 6, 5, 6]].concat();
@@ -151,9 +155,11 @@ fn sweep_with_an_upright_piece() {
   let swept = sweep(&gap, u32::MAX, &mut lent).unwrap();
   let last = Some(Point { x: 5, y: 6, d: 1 });
   assert_eq!(swept, Swept { pairs: &[[0, 1]], steps: 7, ended: true, complete: false, last });
+  let full = full_sweep(&gap, u32::MAX, &mut lent).unwrap();
+  assert_eq!(full, Swept { pairs: &[[0, 1], [0, 2]], steps: 8, ended: true, complete: true, last });
 }
 
-/// The library reads the file that the tool wrote, and lists the pairs that the Rust lists.
+/// The library reads the file that the tool wrote, and lists the pairs that all pairs has, in the order of the listing.
 #[test]
 fn booster_fan() {
   let mut list = [0; LIST_ROOM];
@@ -166,10 +172,10 @@ fn booster_fan() {
     Some([numbers.next()?.ok()?, numbers.next()?.ok()?])
   };
   let listed: Vec<Pair> = listing.lines().filter_map(pair).collect();
-  assert_eq!(listed.len(), 27);
+  assert_eq!(listed.len(), 35);
   let mut lent = vec![0; pairs_room(pieces.len())];
-  let swept = sweep(list, u32::MAX, &mut lent).unwrap();
-  assert_eq!((swept.pairs, swept.steps, swept.complete), (&listed[..], 39, true));
+  let swept = full_sweep(list, u32::MAX, &mut lent).unwrap();
+  assert_eq!((swept.pairs, swept.steps, swept.complete), (&listed[..], 49, true));
   let found = all_pairs(list, &mut lent).unwrap().iter().map(|[a, b]| [*b, *a]);
   assert_eq!(found.collect::<BTreeSet<Pair>>(), listed.into_iter().collect());
 }

@@ -114,6 +114,7 @@ fn refused_list(list: &[i32], room: usize, fault: Fault, place: usize, told: &st
   assert_eq!(refused, Refusal { fault, place, given: Given::List }, "{list:?}");
   assert_eq!(refused.to_string(), told);
   assert_eq!(sweep(list, u32::MAX, &mut lent), Err(refused));
+  assert_eq!(full_sweep(list, u32::MAX, &mut lent), Err(refused));
   assert!(lent.iter().all(|v| *v == 9));
 }
 

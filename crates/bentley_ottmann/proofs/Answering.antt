@@ -41,7 +41,7 @@ use Rattle.bentley_ottmann.specs.Running.{places, Stopped}
 use Rattle.bentley_ottmann.proofs.Running.{has-room, agrees}
 
 -- ---- the two words for the bytes of a list of pairs
-flat-is : (l : List Pair) → flat l ≡ bytes l
+pub flat-is : (l : List Pair) → flat l ≡ bytes l
 unfolding flat bytes
 flat-is [] = refl
 flat-is (q ∷ l) = ap (λ (m : List ℕ). q .0 ∷ q .1 ∷ m) (flat-is l)

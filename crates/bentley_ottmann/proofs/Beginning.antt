@@ -31,7 +31,7 @@ module _ (n : ℕ) (few : n ≤ most) where
     pub front-within : 2 * n ≤ length (l ++ drop (2 * n) (zeros 128))
     front-within = omega (arith, few, length-front (zeros 128) l (2 * n) e, long 128)
 
-    front-is : take (2 * n) (l ++ drop (2 * n) (zeros 128)) ≡ l
+    pub front-is : take (2 * n) (l ++ drop (2 * n) (zeros 128)) ≡ l
     front-is = take-at l (drop (2 * n) (zeros 128)) (2 * n) (e ∙ sym part-long)
 
     pub front-long : 2 * n ≡ length (take (2 * n) (l ++ drop (2 * n) (zeros 128)))

@@ -30,9 +30,9 @@ extern "C" {
 
 /* ---- version: of what this header says. MAJOR grows where a program that was right may have to change. */
 #define MIRTALUGHE_VERSION_MAJOR 0
-#define MIRTALUGHE_VERSION_MINOR 7
-#define MIRTALUGHE_VERSION_PATCH 1
-#define MIRTALUGHE_VERSION "0.7.1"
+#define MIRTALUGHE_VERSION_MINOR 8
+#define MIRTALUGHE_VERSION_PATCH 0
+#define MIRTALUGHE_VERSION "0.8.0"
 
 /* ---- sizes */
 #define MIRTALUGHE_MOST_PIECES 64 /* of a chart */
@@ -126,9 +126,10 @@ typedef struct {
 } mirtalughe_placed;
 
 /* What a sweep says: `pairs` pairs are listed; `steps` steps were done; `ended`, the queue is empty, so that a larger
-   budget would do no more; `complete`, no piece is upright. Where `ended` and `complete`, every pair that meets is
-   listed; where `complete` is false, pairs may be missing even then (mirtalughe_all_pairs has them). Where `visited`,
-   the last point is x/d, y/d in lowest terms, d above 0; at zero steps nothing is visited and all three are zero. */
+   budget would do no more; `complete`, of mirtalughe_full_sweep always true, of mirtalughe_sweep that no piece is
+   upright. Where `ended` and `complete`, every pair that meets is listed; where `complete` is false, pairs may be missing
+   even then (mirtalughe_full_sweep and mirtalughe_all_pairs have them). Where `visited`, the last point is x/d, y/d in
+   lowest terms, d above 0; at zero steps nothing is visited and all three are zero. */
 typedef struct {
     uint8_t number;
     size_t place;
@@ -216,10 +217,15 @@ mirtalughe_placed mirtalughe_place(const int32_t *list, size_t length);
    `lent` is at least MIRTALUGHE_PAIRS_ROOM(n). Bytes past the last pair keep their values. */
 mirtalughe_answer mirtalughe_all_pairs(const int32_t *list, size_t length, uint8_t *pairs, size_t lent);
 
-/* Sweeps a list's n pieces from left to right, at most `budget` steps, a visited point each, and lists pairs that
-   meet, two bytes a pair, the lesser number first, in the order in which it finds them: on a chart with no upright
-   piece that is the order of their first common points, then of the lesser number, then of the greater. `lent` is at
-   least MIRTALUGHE_PAIRS_ROOM(n). Bytes past the last pair keep their values. */
+/* Sweeps a list's n pieces from left to right, at most `budget` steps, a visited point each, and lists the pairs that
+   meet, two bytes a pair, the lesser number first, by their first common points, then the lesser number, then the
+   greater. Wherever it stops, no pair is missing whose first common point is at or before the last point visited, with
+   upright pieces or without. `lent` is at least MIRTALUGHE_PAIRS_ROOM(n). Bytes past the last pair keep their values.
+   This is the sweep to call, unless the answers have to be the Rust's. */
+mirtalughe_swept mirtalughe_full_sweep(const int32_t *list, size_t length, uint32_t budget, uint8_t *pairs, size_t lent);
+
+/* Sweeps as the Rust does, step by step. On a chart with no upright piece the answer and the bytes are those of
+   mirtalughe_full_sweep, at every budget; with upright pieces some pairs may be missing, and `complete` is false. */
 mirtalughe_swept mirtalughe_sweep(const int32_t *list, size_t length, uint32_t budget, uint8_t *pairs, size_t lent);
 
 /* Holds a list of pairs, `size` bytes, two a pair in any order, to a list's pieces: whether it names each pair that meets

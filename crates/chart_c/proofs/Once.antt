@@ -10,6 +10,7 @@ use Rattle.chart_c.proofs.mirtalughe_meeting.Reads as meeting
 use Rattle.chart_c.proofs.mirtalughe_place.Reads as place
 use Rattle.chart_c.proofs.mirtalughe_all_pairs.Reads as all-pairs
 use Rattle.chart_c.proofs.mirtalughe_sweep.Reads as sweep
+use Rattle.chart_c.proofs.mirtalughe_full_sweep.Reads as full-sweep
 use Rattle.chart_c.proofs.mirtalughe_check.Reads as check
 use Rattle.chart_c.proofs.mirtalughe_region.Reads as region
 use Rattle.chart_c.proofs.mirtalughe_half_line.Reads as half-line
@@ -37,6 +38,9 @@ all-pairs-once κ a x y s t h k = (h .0 ∙ sym (k .0), h .1 ∙ sym (k .1))
 
 pub sweep-once : OneOutcome sweep.Post (λ κ s. now (s .1 .1 .0))
 sweep-once κ a x y s t h k = (h .0 ∙ sym (k .0), h .1 ∙ sym (k .1))
+
+pub full-sweep-once : OneOutcome full-sweep.Post (λ κ s. now (s .1 .1 .0))
+full-sweep-once κ a x y s t h k = (h .0 ∙ sym (k .0), h .1 ∙ sym (k .1))
 
 pub check-once : OneResult check.Post
 check-once κ a x y s t h k = h ∙ sym k

@@ -10,6 +10,7 @@ ghost use Rattle.chart_writer.specs.Writing.{Writes};
 ghost use Rattle.naive.specs.AllPairs.{allPairsOf, lentAfter};
 ghost use Rattle.bentley_ottmann.specs.Swept.{sweepOf};
 ghost use Rattle.bentley_ottmann.specs.Swept.{lentAfter as sweptAfter};
+ghost use Rattle.full_sweep.specs.Swept.{sweepOf as fullSweepOf, lentAfter as fullAfter};
 ghost use Rattle.supplied.specs.Checking.{checkedOf};
 ghost use Rattle.chart_c.specs.Sweeps.{sweptAs, sweptFields};
 ghost use Rattle.chart_c.specs.Checks.{checkedAs};
@@ -305,12 +306,22 @@ fn swept_fields(s: Swept, last: Last) -> SweptFields
     }
 }
 
-// Sweeps a chart's pieces, at most `budget` steps.
+// Sweeps a chart's pieces as the Rust does, at most `budget` steps.
 #[no_mangle]
 pub extern "C" fn mirtalughe_sweep(list: &[i32], budget: u32, pairs: &mut [u8]) -> SweptFields
     ensures { λ r. ⌜ (r ≡ sweptFields (sweepOf (now (list .entry)) budget (length (now (pairs .entry))))) × (now (pairs .exit) ≡ sweptAfter (now (list .entry)) budget (now (pairs .entry))) ⌝ }
 {
     let swept = bentley_ottmann::sweep(list, budget, pairs);
+    let last = swept.last;
+    swept_fields(swept, last)
+}
+
+// Sweeps a chart's pieces in the new mode, at most `budget` steps: no pair is lost, with upright pieces or without.
+#[no_mangle]
+pub extern "C" fn mirtalughe_full_sweep(list: &[i32], budget: u32, pairs: &mut [u8]) -> SweptFields
+    ensures { λ r. ⌜ (r ≡ sweptFields (fullSweepOf (now (list .entry)) budget (length (now (pairs .entry))))) × (now (pairs .exit) ≡ fullAfter (now (list .entry)) budget (now (pairs .entry))) ⌝ }
+{
+    let swept = full_sweep::sweep(list, budget, pairs);
     let last = swept.last;
     swept_fields(swept, last)
 }

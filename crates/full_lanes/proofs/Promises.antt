@@ -41,9 +41,9 @@ module _ (n : ℕ) (table : List ℤ) (last : Option Point) (q : Pair) where
   abbrev C-lane : Option Point
   C-lane = lane (finer n (pieceIn table)) last q
 
-  record Open : Type 0 where
-    crosses : intersectOf (pieceIn table (q .0)) (pieceIn table (q .1)) ≡ Crossing
-    is : C-lane ≡ some (crossingOf (pieceIn table (q .0)) (pieceIn table (q .1)))
+  pub record Open : Type 0 where
+    pub crosses : intersectOf (pieceIn table (q .0)) (pieceIn table (q .1)) ≡ Crossing
+    pub is : C-lane ≡ some (crossingOf (pieceIn table (q .0)) (pieceIn table (q .1)))
 
   open-of : ¬ (C-lane ≡ none) → Open
   unfolding lane
@@ -62,7 +62,7 @@ module _ (n : ℕ) (table : List ℤ) (last : Option Point) (q : Pair) where
   taken-open : keyed C-lane < noKey → Open
   taken-open h = open-of (λ e. omega (arith, ap keyed e))
 
-  some-open : {c : Point} → C-lane ≡ some c → Open × (c ≡ crossingOf (pieceIn table (q .0)) (pieceIn table (q .1)))
+  pub some-open : {c : Point} → C-lane ≡ some c → Open × (c ≡ crossingOf (pieceIn table (q .0)) (pieceIn table (q .1)))
   some-open {c} f =
       let o = open-of (λ e. let z : _≡_ {A = ℕ} 0 1 = ap (λ (x : Option Point). is-taken x) (sym e ∙ f) in omega arith) in
       (o, only (sym f ∙ o .is))
@@ -87,7 +87,7 @@ module _ (n : ℕ) (table : List ℤ) (last : Option Point) (active keys : List 
   inner : (k : ℕ) → k < live → getD keys k 0 < noKey → k + 1 < live
   inner k h l = ⊎-elim (λ (e : k + 1 ≡ live). absurd (omega (arith, B .end k e))) (λ (g : k + 1 < live). g) (eq-or-lt-of-le {n = k + 1} {m = live} (omega arith))
 
-  opened : (k : ℕ) → k < live → getD keys k 0 < noKey → Open n table last (pairAt active k)
+  pub opened : (k : ℕ) → k < live → getD keys k 0 < noKey → Open n table last (pairAt active k)
   opened k h l = taken-open n table last (pairAt active k) (subst (λ (z : ℕ). z < noKey) (B .lanes-are k (inner k h l)) l)
 
   is-taken : (k : ℕ) → k < live → getD keys k 0 < noKey → Taken table active live k (getD keys k 0)
@@ -171,7 +171,7 @@ module _ (n : ℕ) (table : List ℤ) (last : Option Point) (active keys : List 
       (adjacent-in (take live active) k (omega (arith, length-take-le live active (B .places))))
       (ap (lane (finer n (pieceIn table)) last) (same-pair k h) ∙ e)
 
-  ahead-out : {c : Point} → In c (ahead n table last active keys live) → (k : ℕ) × (k + 1 < live) × (C-lane n table last (pairAt active k) ≡ some c)
+  pub ahead-out : {c : Point} → In c (ahead n table last active keys live) → (k : ℕ) × (k + 1 < live) × (C-lane n table last (pairAt active k) ≡ some c)
   unfolding lanes
   ahead-out m =
       let s = somes-out (lane (finer n (pieceIn table)) last) (adjacent (take live active)) m in
@@ -180,7 +180,7 @@ module _ (n : ℕ) (table : List ℤ) (last : Option Point) (active keys : List 
       (a .0, h, ap (lane (finer n (pieceIn table)) last) (sym (same-pair (a .0) h) ∙ sym (a .2)) ∙ s .2)
 
   -- a crossing ahead has a key, so its place is taken
-  has-key : (k : ℕ) {c : Point} → k + 1 < live → C-lane n table last (pairAt active k) ≡ some c → getD keys k 0 < noKey
+  pub has-key : (k : ℕ) {c : Point} → k + 1 < live → C-lane n table last (pairAt active k) ≡ some c → getD keys k 0 < noKey
   unfolding pairAt
   has-key k h e =
       let o = some-open n table last (pairAt active k) e in

@@ -11,7 +11,7 @@ use native.Mathlib.Omega.{arith}
 use lib.Dec.{ltb}
 use lib.IntN.{ℤ}
 use lib.ListN.{length, take, drop}
-use lib.Seq.{take-take, length-take-le}
+use lib.Seq.{slice, take-take, length-take-le}
 use Rattle.fractions.specs.declared.Point.{Point}
 use Rattle.line_segment.specs.Piece.{pointOf}
 use Rattle.sweep.specs.Lists.{keep, pairs, Pairwise}
@@ -75,11 +75,14 @@ module _ (n : ℕ) (table : List ℤ) where
         ∙ keep-same (goesOnIn table p) (λ i. not (finishes C p i)) _ (λ i m. goes-on-is p i))
         ∙ renewed-is C S G A s I p hp (starters ends) once new-out new-in
 
-    pub turned-is : (lanes a′ lanes′ : List ℕ) (m : ℕ) → Turned a lanes live first last (newBlock table p first last a ends) a′ lanes′ m
-        → take (first + m + (live - last)) a′ ≡ replaced C S (s .active) p
+    -- the active list with the block anew
+    pub in-place-is : take first a ++ (newBlock table p first last a ends ++ slice last live a) ≡ replaced C S (s .active) p
     unfolding replaced
-    turned-is lanes a′ lanes′ m T =
-        T .pieces-are
-        ∙ ap₂ (λ (x : List ℕ) (y : List ℕ). x ++ y)
+    in-place-is =
+        ap₂ (λ (x : List ℕ) (y : List ℕ). x ++ y)
         (sym (take-take first live a (omega (arith, ap length (sym holds), length-take-le live a fits, whole-length C S G A s I p hp))) ∙ ap (take first) holds ∙ front-is C S G A s I p hp)
         (ap₂ (λ (x : List ℕ) (y : List ℕ). x ++ y) new-block-is (ap (drop last) holds ∙ back-is C S G A s I p hp))
+
+    pub turned-is : (lanes a′ lanes′ : List ℕ) (m : ℕ) → Turned a lanes live first last (newBlock table p first last a ends) a′ lanes′ m
+        → take (first + m + (live - last)) a′ ≡ replaced C S (s .active) p
+    turned-is lanes a′ lanes′ m T = T .pieces-are ∙ in-place-is

@@ -1,2 +1,5 @@
--- What the contracts of the two halves of a step cite.
+-- What the contracts of a step and its two halves cite, and the relation that it keeps between the arrays and the state.
 pub mod Halves
+pub mod Carried
+pub mod Whole
+pub mod Demand

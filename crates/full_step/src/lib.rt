@@ -1,20 +1,23 @@
-// The two halves of a step of the new mode at a point: its new pairs are listed, and its block is renewed in place. The
-// block stands from lo up to hi in the active list; `ends` are the keys of the ends at the point.
+// A step of the new mode at a point: its new pairs are listed, its block is renewed in place, and the two outer pairs of the
+// block are examined. The block stands from lo up to hi in the active list; `ends` are the keys of the ends at the point.
 ghost use mathlib.Core.Path.{_≡_};
 ghost use mathlib.Core.List.{_++_};
 ghost use Prim.Native.Nat.{ℕ, _+_, _-_, _≤_};
 ghost use lib.ListN.{length, take};
 ghost use Rattle.charts.specs.Chart.{most};
-ghost use Rattle.fractions.specs.declared.Point.{Point};
 ghost use Rattle.sweep.specs.Lists.{keep, pairs};
 ghost use Rattle.full_points.specs.Spot.{Fair, Marks};
 ghost use Rattle.full_active.specs.Ranks.{starters, AllBytes};
 ghost use Rattle.full_list.specs.Listed.{freshIn, Roomy, Listed};
+ghost use Rattle.full_lanes.specs.Lanes.{ProperPlaces};
 ghost use Rattle.full_step.specs.Halves.{InBounds, atPoint, newBlock, Marked, Turnable, Turned};
+ghost use Rattle.full_step.specs.Whole.{outerExamined, Steppable, Stepped};
 use charts::MOST;
+use fractions::Point;
 use full_active::gather;
 use full_active::renew;
 use full_active::replace;
+use full_lanes::examine;
 use full_list::list_all;
 use full_points::Spot;
 
@@ -55,4 +58,58 @@ pub fn turn(
     let m = renew(table, p, active, lo, hi, ends, &mut fresh);
     replace(active, lanes, live, lo, hi, &fresh, m);
     m
+}
+
+// The lane in front of the block and that of its last piece anew.
+fn examine_outer(
+    table: &[i16],
+    active: &[u8],
+    lanes: &mut [u32],
+    live: usize,
+    lo: usize,
+    m: usize,
+    p: Point,
+)
+    requires { ⌜ (lo + m ≤ live) × (live ≤ length (now active)) × (live ≤ length (now lanes)) × ProperPlaces (now table) (now active) live ⌝ }
+    ensures { λ _. ⌜ now (lanes .exit) ≡ outerExamined (now (table .entry)) (now (active .entry)) live lo m p (now (lanes .entry)) ⌝ }
+{
+    if 0 < lo {
+        examine(table, active, lanes, live, lo - 1, p);
+    }
+    if 0 < m {
+        examine(table, active, lanes, live, lo + m - 1, p);
+    }
+}
+
+// How many pieces are active now, and where the list ends.
+pub struct At {
+    pub live: usize,
+    pub end: usize,
+}
+
+// The whole step at p, whose spot it is.
+pub fn step(
+    table: &[i16],
+    p: Point,
+    spot: Spot,
+    active: &mut [u8],
+    lanes: &mut [u32],
+    live: usize,
+    lo: usize,
+    hi: usize,
+    ends: &[u64],
+    bytes: &mut [u8],
+    end: usize,
+) -> At
+    requires { ⌜ Steppable (now table) spot (now active) (now lanes) live lo hi (now ends) (now bytes) end ⌝ }
+    ensures { λ r. ⌜ ((q : Point) → Marks spot q → Stepped (now (table .entry)) q p (now (active .entry)) (now (lanes .entry)) live lo hi (now (ends .entry)) (now (bytes .entry)) end (now (active .exit)) (now (lanes .exit)) (now (bytes .exit)) r (newBlock (now (table .entry)) q lo hi (now (active .entry)) (now (ends .entry)))) ⌝ }
+{
+    let to = report(table, spot, active, lo, hi, ends, bytes, end);
+    let m = turn(table, spot, active, lanes, live, lo, hi, ends);
+    let count = lo + m + (live - hi);
+    examine_outer(table, active, lanes, count, lo, m, p);
+    At {
+        live: count,
+        end: to,
+    }
 }

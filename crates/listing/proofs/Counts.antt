@@ -16,16 +16,16 @@ use Rattle.charts.proofs.Accepted.{accepted-most}
 use Rattle.charts.proofs.Room.{room-more, room-none, room-least}
 use Rattle.sweep.specs.Lists.{Pair, upto, pairs}
 use Rattle.sweep.specs.Chart.{Chart, meets, kind}
-use Rattle.sweep.specs.Sought.{all, meeting}
-use Rattle.sweep.specs.Run.{answer}
-use Rattle.sweep.specs.Ported.{ported}
-use Rattle.sweep.specs.Demand.{AlwaysPromises}
+use Rattle.sweep.specs.Sought.{all, points, meeting}
+use Rattle.sweep.specs.Demand.{Pieces, RunPromises}
 use Rattle.sweep.proofs.Lists.{keep-fewer}
 use Rattle.sweep.proofs.Pairs.{upto-length}
 use Rattle.sweep.proofs.Occurring.{all-in}
 use Rattle.ported_arrays.proofs.Distinct.{distinct-fit}
-use Rattle.sweep_geometry.proofs.Promises.{ported-always}
-use Rattle.sweep_geometry.proofs.Accepted.{list-proper}
+use Rattle.full_steps.specs.Steps.{answer}
+use Rattle.full_steps.specs.Demand.{full-run}
+use Rattle.full_order.specs.Finer.{finer}
+use Rattle.full_order.proofs.Modes.{list-full-sweeps}
 use Rattle.listing.specs.Listing.{largest}
 use Rattle.listing.specs.Demand.{SweptToTheEnd}
 
@@ -40,10 +40,13 @@ most-room = refl
 
 module _ (list : List ℤ) (n : ℕ) (e : verdictOf list ≡ Accepted n) where
   abbrev C : Chart
-  C = ported n (pieceAt list)
+  C = finer n (pieceAt list)
 
-  pub always : AlwaysPromises C
-  always = ported-always n (pieceAt list) (list-proper list n e)
+  promises : RunPromises C (full-run C)
+  promises = list-full-sweeps list n e
+
+  pub lists-only : (budget : ℕ) (q : Pair) → In q ((answer C budget) .listed) → Pieces C q × (meets (kind C q) ≡ true)
+  lists-only budget q m = let t = promises .lists-exactly budget q .0 m in (t .0, t .1)
 
   pub room-few : room n ≤ 4032
   room-few = omega (arith, room-least n most (accepted-most list n e), most-room)
@@ -58,14 +61,14 @@ module _ (list : List ℤ) (n : ℕ) (e : verdictOf list ≡ Accepted n) where
 
   pub listed-few : (budget : ℕ) → 2 * length ((answer C budget) .listed) ≤ 4032
   listed-few budget =
-      let within : (q : Pair) → In q ((answer C budget) .listed) → In q (all C) = λ q m. all-in C q ((always .lists-only budget q m) .0) in
-      omega (arith, distinct-fit ((answer C budget) .listed) (all C) (always .lists-once budget) within, all-few)
+      let within : (q : Pair) → In q ((answer C budget) .listed) → In q (all C) = λ q m. all-in C q (lists-only budget q m .0) in
+      omega (arith, distinct-fit ((answer C budget) .listed) (all C) (promises .lists-once budget) within, all-few)
 
   pub steps-few : (budget : ℕ) → (answer C budget) .steps ≤ 2144
-  steps-few budget = omega (arith, always .steps-bounded budget, meeting-few, accepted-most list n e)
+  steps-few budget = omega (arith, promises .steps-bounded budget, meeting-few, accepted-most list n e)
 
   ended : (answer C largest) .ended ≡ true
-  ended = always .ends-soon largest (omega (arith, meeting-few, accepted-most list n e))
+  ended = promises .ends-exactly largest .1 (omega (arith, promises .counts-steps (length (points C)), steps-few (length (points C))))
 
 pub swept-to-the-end : SweptToTheEnd
 swept-to-the-end = ended

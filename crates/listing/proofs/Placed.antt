@@ -17,7 +17,7 @@ use Rattle.sweep.specs.Chart.{meets}
 use Rattle.sweep.specs.Ported.{kindOf}
 use Rattle.listing.specs.Listing.{largest}
 use Rattle.listing.specs.Demand.{LinesHavePlaces}
-use Rattle.listing.proofs.Counts.{always}
+use Rattle.listing.proofs.Counts.{lists-only}
 
 stretched : (o : Order) (p q : Point) → ¬ (alongBy o p q ≡ Where.Nothing)
 unfolding alongBy
@@ -34,4 +34,4 @@ placed (Meeting.Overlap s) p e z = stretched (endOrder (s .min) (s .max)) (point
 pub lines-have-places : LinesHavePlaces
 unfolding whereOf
 lines-have-places list n e a b m =
-    placed (intersectOf (pieceAt list a) (pieceAt list b)) (crossingOf (pieceAt list a) (pieceAt list b)) (always list n e .lists-only largest (a, b) m .1)
+    placed (intersectOf (pieceAt list a) (pieceAt list b)) (crossingOf (pieceAt list a) (pieceAt list b)) (lists-only list n e largest (a, b) m .1)

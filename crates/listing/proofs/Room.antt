@@ -17,14 +17,14 @@ use Rattle.chart_file.proofs.Refusals.{refused-few}
 use Rattle.place.specs.Place.{whereOf}
 use Rattle.place.proofs.Given.{given-in-range}
 use Rattle.sweep.specs.Lists.{Pair}
-use Rattle.sweep.specs.Run.{answer}
-use Rattle.sweep.specs.Ported.{ported}
+use Rattle.full_steps.specs.Steps.{answer}
+use Rattle.full_order.specs.Finer.{finer}
 use Rattle.decimals.specs.Text.{ascii}
 use Rattle.listing_lines.specs.Lines.{countLine, pairLine, pairLines}
 use Rattle.listing.specs.Listing.{largest, chartLines, chartText, textOf, listingOf, longestText}
 use Rattle.listing.specs.Demand.{Fits}
 use Rattle.listing_lines.proofs.Widths.{count-width, complete-width, pair-width}
-use Rattle.listing.proofs.Counts.{always, listed-few, steps-few}
+use Rattle.listing.proofs.Counts.{lists-only, listed-few, steps-few}
 
 -- ---- a chart
 module _ (list : List ℤ) (n : ℕ) (e : verdictOf list ≡ Accepted n) where
@@ -49,13 +49,13 @@ module _ (list : List ℤ) (n : ℕ) (e : verdictOf list ≡ Accepted n) where
   chart-fits : length (chartText list n) ≤ longestText
   unfolding chartText chartLines ascii
   chart-fits =
-      let swept = answer (ported n (pieceAt list)) largest in
+      let swept = answer (finer n (pieceAt list)) largest in
       rw (length-append, length-append, length-append)
       (omega (
         arith,
         count-width (ascii "chart ") n 1 (omega (arith, accepted-most list n e)),
         complete-width (swept .complete),
-        lines-width (swept .listed) (λ q m. (always list n e .lists-only largest q m) .0),
+        lines-width (swept .listed) (λ q m. lists-only list n e largest q m .0),
         listed-few list n e largest,
         count-width (ascii "steps ") (swept .steps) 9 (omega (arith, steps-few list n e largest)),
       ))

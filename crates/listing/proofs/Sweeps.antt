@@ -16,10 +16,10 @@ use Rattle.charts.specs.declared.Verdict.the-variants.{Accepted}
 use Rattle.naive.specs.Pairs.{bytes, over}
 use Rattle.naive.proofs.Rows.{bytes-length}
 use Rattle.sweep.specs.Lists.{Pair}
-use Rattle.sweep.specs.Run.{answer}
-use Rattle.sweep.specs.Ported.{ported}
+use Rattle.full_steps.specs.Steps.{answer}
+use Rattle.full_order.specs.Finer.{finer}
 use Rattle.bentley_ottmann.specs.declared.Swept.{Swept}
-use Rattle.bentley_ottmann.specs.Swept.{saying, sweptBy, listedOver, sweepOf, lentAfter}
+use Rattle.full_sweep.specs.Swept.{saying, sweptBy, listedOver, sweepOf, lentAfter}
 use Rattle.listing_lines.specs.Lines.{pairsIn}
 use Rattle.listing.specs.Listing.{chartLines, largest, chartText}
 use Rattle.listing.proofs.Counts.{room-few, listed-few}
@@ -39,7 +39,7 @@ module _ (list : List ℤ) (n : ℕ) (e : verdictOf list ≡ Accepted n) (lent :
   unfolding verdictFor
   goes = rw (e, l, le-ltb 4032 (room n) (room-few list n e))
 
-  swept-is : sweepOf list largest (length lent) ≡ saying n (pieceAt list) (answer (ported n (pieceAt list)) largest)
+  swept-is : sweepOf list largest (length lent) ≡ saying n (pieceAt list) (answer (finer n (pieceAt list)) largest)
   unfolding sweepOf sweptBy
   swept-is = rw goes
 
@@ -47,13 +47,13 @@ module _ (list : List ℤ) (n : ℕ) (e : verdictOf list ≡ Accepted n) (lent :
   unfolding over
   listed-are ps = rw (take-at (bytes ps) (drop (length (bytes ps)) lent) (2 * length ps) (bytes-length ps ∙ omega arith)) (pairs-again ps)
 
-  pairs-are : let ps = (answer (ported n (pieceAt list)) largest) .listed in pairsIn (take (2 * length ps) (lentAfter list largest lent)) ≡ ps
+  pairs-are : let ps = (answer (finer n (pieceAt list)) largest) .listed in pairsIn (take (2 * length ps) (lentAfter list largest lent)) ≡ ps
   unfolding lentAfter listedOver
-  pairs-are = rw goes (listed-are ((answer (ported n (pieceAt list)) largest) .listed))
+  pairs-are = rw goes (listed-are ((answer (finer n (pieceAt list)) largest) .listed))
 
   pub full-sweep : (r : Swept) (after : List ℕ) → r ≡ sweepOf list largest (length lent) → after ≡ lentAfter list largest lent → Listed list n r after
   unfolding chartText
   full-sweep r after h k =
-      let a = answer (ported n (pieceAt list)) largest in
+      let a = answer (finer n (pieceAt list)) largest in
       rw (h ∙ swept-is, k)
       (record { few = listed-few list n e largest; text = ap (λ (ps : List Pair). chartLines list n (a .complete) ps (a .steps)) pairs-are })

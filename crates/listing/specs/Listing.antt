@@ -12,12 +12,12 @@ use Rattle.charts.specs.declared.Answer.{Answer}
 use Rattle.chart_file.specs.Format.{longest}
 use Rattle.chart_file.specs.Reading.{Reading, due, stopped, readingOf}
 use Rattle.sweep.specs.Lists.{Pair}
-use Rattle.sweep.specs.Run.{answer}
-use Rattle.sweep.specs.Ported.{ported}
+use Rattle.full_steps.specs.Steps.{answer}
+use Rattle.full_order.specs.Finer.{finer}
 use Rattle.decimals.specs.Text.{ascii}
 use Rattle.listing_lines.specs.Lines.{countLine, completeLine, pairLines}
 
--- "the piece count; no upright piece; per pair in sweep order ..; steps to the end"
+-- "the piece count; that nothing is missing; per pair in sweep order ..; steps to the end"
 unfoldable pub chartLines : List ℤ → ℕ → Bool → List Pair → ℕ → List ℕ
 chartLines list n complete listed steps =
     countLine (ascii "chart ") n ++ completeLine complete ++ pairLines list listed ++ countLine (ascii "steps ") steps
@@ -26,10 +26,10 @@ chartLines list n complete listed steps =
 abbrev pub largest : ℕ
 largest = 4294967295
 
--- of a list of n pieces
+-- of a list of n pieces, swept in the new mode
 unfoldable pub chartText : List ℤ → ℕ → List ℕ
 chartText list n =
-    let swept = answer (ported n (pieceAt list)) largest in
+    let swept = answer (finer n (pieceAt list)) largest in
     chartLines list n (swept .complete) (swept .listed) (swept .steps)
 
 -- "A refused file prints one line, `refused` and the number."

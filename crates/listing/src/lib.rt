@@ -18,13 +18,13 @@ pub const LONGEST: usize = 9 + 13 + PAIRS / 2 * 45 + 17;
 // The longest chart file and one byte more: so much of an input decides its listing.
 pub const DECIDING: usize = chart_file::LONGEST + 1;
 
-// The text of an accepted list, swept to its end.
+// The text of an accepted list, swept to its end in the new mode.
 fn put_chart(list: &[i32], text: &mut [u8]) -> usize
     requires { ⌜ verdictOf (now list) ≡ Accepted (length (now list) / 5) ⌝ }
     ensures { λ r. ⌜ Text·text (now (text .exit)) r ≡ put (chartText (now (list .entry)) (length (now (list .entry)) / 5)) (Text·text (now (text .entry)) 0) ⌝ }
 {
     let mut pairs = [0u8; PAIRS];
-    let swept = bentley_ottmann::sweep(list, u32::MAX, &mut pairs);
+    let swept = full_sweep::sweep(list, u32::MAX, &mut pairs);
     let bytes = 2 * swept.pairs;
     let count = list.len() / 5;
     let counted = listing_lines::put_count(text, 0, b"chart ", count as u64);

@@ -1,15 +1,13 @@
 -- The calls for C: the promises of what they call hold of what a C caller has.
 -- Assumes nothing.
-use mathlib.Core.Path.{_≡_, refl, sym, ap, _∙_}
+use mathlib.Core.Path.{_≡_, refl, sym, ap, _∙_, subst}
 use mathlib.Core.List.{List}
 use Prim.Native.Nat.{ℕ}
 use denote.Ref.{now}
 use lib.IntN.{ℤ}
-use lib.ListN.{length}
 use Rattle.bentley_ottmann.specs.declared.Last.{Last}
 use Rattle.bentley_ottmann.specs.declared.Last.the-variants.{None, At}
 use Rattle.bentley_ottmann.specs.declared.Swept.{Swept}
-use Rattle.bentley_ottmann.specs.Swept.{sweepOf}
 use Rattle.chart_c.specs.Sweeps.{sweptAs, sweptFields}
 use Rattle.chart_c.proofs.mirtalughe_all_pairs.Reads as all-pairs-c
 use Rattle.chart_c.proofs.mirtalughe_sweep.Reads as sweep-c
@@ -53,8 +51,8 @@ allows-pairs-c κ a r s h = record { returned = h .0; left = h .1 }
 
 -- ---- the sweep
 pub allows-sweep-c : (κ : _) (a : _) (r : _) (s : _) → sweep-c.Post κ a r s
-    → InFields (now (a .0)) (a .1 .0) (now (a .1 .1 .0)) (sweptRead r) (now (s .1 .1 .0))
-allows-sweep-c κ a r s h = record { fields = r; returned = h .0; left = h .1; read = refl }
+    → InFields Ported (now (a .0)) (a .1 .0) (now (a .1 .1 .0)) (sweptRead r) (now (s .1 .1 .0))
+allows-sweep-c κ a r s h = record { swept = _; allowed = record { returned = refl; left = h .1 }; fields = r; returned = h .0; read = refl }
 
 -- what is read is what was put into the fields
 read-fields : (s : Swept) → sweptRead (sweptFields s) ≡ s
@@ -65,8 +63,13 @@ read-fields s = go (s .last) refl
     go None e = ap (λ (l : Last). sweptRead (sweptAs s l)) e ∙ λ i. record { number = s .number; place = s .place; pairs = s .pairs; steps = s .steps; ended = s .ended; complete = s .complete; last = sym e i }
     go (At p) e = ap (λ (l : Last). sweptRead (sweptAs s l)) e ∙ λ i. record { number = s .number; place = s .place; pairs = s .pairs; steps = s .steps; ended = s .ended; complete = s .complete; last = sym e i }
 
-pub c-sweep-promises : SweepPromises InFields NoneUpright
-c-sweep-promises =
-    fewer {A = InFields} {B = Ported}
-    (λ list budget lent r after o. record { returned = o .read ∙ ap sweptRead (o .returned) ∙ read-fields (sweepOf list budget (length lent)); left = o .left })
-    ported-promises
+-- so its call for C allows no other outcome, and has all its promises
+pub within-fields : (A : Outcome) (list : List ℤ) (budget : ℕ) (lent : List ℕ) (r : Swept) (after : List ℕ) → InFields A list budget lent r after → A list budget lent r after
+within-fields A list budget lent r after o =
+    subst (λ (s : Swept). A list budget lent s after) (sym (o .read ∙ ap sweptRead (o .returned) ∙ read-fields (o .swept))) (o .allowed)
+
+pub in-fields : (A : Outcome) (Whole : List ℤ → ℕ → Type 0) → SweepPromises A Whole → SweepPromises (InFields A) Whole
+in-fields A Whole = fewer {A = InFields A} {B = A} {Whole = Whole} (within-fields A)
+
+pub c-sweep-promises : SweepPromises (InFields Ported) NoneUpright
+c-sweep-promises = in-fields Ported NoneUpright ported-promises

@@ -4,14 +4,13 @@ use mathlib.Core.Bool.{Bool, true, false}
 use mathlib.Core.List.{List}
 use Prim.Native.Nat.{ℕ}
 use lib.IntN.{ℤ}
-use lib.ListN.{length}
 use Rattle.fractions.specs.declared.Point.{Point}
 use Rattle.bentley_ottmann.specs.declared.Last.{Last}
 use Rattle.bentley_ottmann.specs.declared.Last.the-variants.{None, At}
 use Rattle.bentley_ottmann.specs.declared.Swept.{Swept}
-use Rattle.bentley_ottmann.specs.Swept.{sweepOf, lentAfter}
 use Rattle.chart_c.specs.declared.SweptFields.{SweptFields}
 use Rattle.chart_c.specs.Sweeps.{sweptFields}
+use Rattle.promises.specs.Sweep.{Outcome}
 
 -- where `visited`, the last point is x/d, y/d
 abbrev pub lastRead : Bool → Point → Last
@@ -30,9 +29,11 @@ sweptRead r =
       last = lastRead (r .visited) (record { x = r .x; y = r .y; d = r .d });
     }
 
--- what the contract of `mirtalughe_sweep` allows
-pub record InFields (list : List ℤ) (budget : ℕ) (lent : List ℕ) (s : Swept) (after : List ℕ) : Type 0 where
+-- what the contract of a call for C allows that fills in the fields of what a sweep returned: of `mirtalughe_sweep` the ported
+-- sweep's
+pub record InFields (Allowed : Outcome) (list : List ℤ) (budget : ℕ) (lent : List ℕ) (s : Swept) (after : List ℕ) : Type 0 where
+  pub swept : Swept
+  pub allowed : Allowed list budget lent swept after
   pub fields : SweptFields
-  pub returned : fields ≡ sweptFields (sweepOf list budget (length lent))
-  pub left : after ≡ lentAfter list budget lent
+  pub returned : fields ≡ sweptFields swept
   pub read : s ≡ sweptRead fields

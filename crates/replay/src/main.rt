@@ -15,7 +15,8 @@ fn answer(asked: u8, file: &[u8], list: &[i32]) {
         b'm' => meeting::write(list),
         b'p' => places::write(list),
         b'a' => pairs::write(list),
-        b's' => stops::write(list),
+        b's' => stops::write(list, false),
+        b'f' => stops::write(list, true),
         b'l' => listings::write(file),
         _ => text::words(b"asked nothing\n"),
     }

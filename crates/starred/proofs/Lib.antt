@@ -1,5 +1,6 @@
--- The tables of specs/, checked: the sweep's answers are computed (`Sweeps`), those of the segment test and of all pairs are
+-- The tables of specs/, checked: the answers of both sweeps are computed (`Sweeps`, `Full`), those of the segment test and of all pairs are
 -- examples of line_segment and naive.
 mod Sweeps
+mod Full
 pub mod Starred
 pub mod UprightGap

@@ -9,6 +9,7 @@ use Rattle.naive.specs.AllPairs.{allPairsOf}
 use Rattle.naive.specs.AllPairs.{lentAfter as listedBy}
 use Rattle.bentley_ottmann.specs.declared.Last.the-variants.{At}
 use Rattle.bentley_ottmann.specs.Swept.{sweepOf, lentAfter}
+use Rattle.full_sweep.specs.Swept.{sweepOf as fullSweepOf, lentAfter as fullAfter}
 use Rattle.starred.specs.Written.{piece, at}
 
 -- "piece 0 (0,0)-(0,10), piece 1 (-5,3)-(5,3), piece 2 (-5,6)-(5,6), kind 3"
@@ -27,3 +28,7 @@ pub record UprightGap : Type 0 where
   pub swept : sweepOf gap 9 6
       ≡ record { number = 0; place = 0; pairs = 1; steps = 7; ended = true; complete = false; last = At (at 5 6 1) }
   pub swept-list : lentAfter gap 9 lent ≡ 0 ∷ 1 ∷ 9 ∷ 9 ∷ 9 ∷ 9 ∷ []
+  -- "In the new mode: (0,1), (0,2), 8 steps, complete."
+  pub full : fullSweepOf gap 9 6
+      ≡ record { number = 0; place = 0; pairs = 2; steps = 8; ended = true; complete = true; last = At (at 5 6 1) }
+  pub full-list : fullAfter gap 9 lent ≡ 0 ∷ 1 ∷ 0 ∷ 2 ∷ 9 ∷ 9 ∷ []

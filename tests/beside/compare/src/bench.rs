@@ -10,7 +10,7 @@ use crate::answers::{Chart, LIMIT, MOST_PIECES, Point, is_upright};
 use crate::charts::{self, Random};
 use crate::original::{self, Original};
 use crate::refusals::numbers;
-use crate::{bench_sweep, file, files, library, model, writing};
+use crate::{bench_full, bench_sweep, file, files, library, model, writing};
 
 const SEED: u64 = 6;
 /// A time is that of the quickest of so many batches of calls.
@@ -47,20 +47,26 @@ pub fn print(programs: &Path) -> Result<()> {
     file_row(name, chart)?;
   }
   println!();
-  bench_sweep::print(&charts, programs)
+  bench_sweep::print(&charts, programs)?;
+  println!();
+  bench_full::print(programs)
 }
 
 /// The charts of four tempers, each cut to 16 and 32 pieces and whole.
 fn measured() -> Vec<(&'static str, Chart)> {
-  let random = &mut Random::new(SEED, 0);
-  let tempers = [
+  let cut = |(name, chart): (_, Chart)| [16, 32, 64].map(|n| (name, chart[..n].to_vec()));
+  tempers(0).into_iter().flat_map(cut).collect()
+}
+
+/// A chart of each temper; the first is the one that every table has.
+pub fn tempers(index: usize) -> [(&'static str, Chart); 4] {
+  let random = &mut Random::new(SEED, index);
+  [
     ("sparse", scattered(random, MOST_PIECES, 3_000)),
     ("middle", scattered(random, MOST_PIECES, 12_000)),
     ("dense", scattered(random, MOST_PIECES, 2 * LIMIT)),
     ("every two cross", crossed(random)),
-  ];
-  let cut = |(name, chart): (_, Chart)| [16, 32, 64].map(|n| (name, chart[..n].to_vec()));
-  tempers.into_iter().flat_map(cut).collect()
+  ]
 }
 
 /// Every point against the one after it.
@@ -99,7 +105,7 @@ fn pairs_row(name: &str, chart: &Chart, plain: &Path) -> Result<()> {
   let rust = least(BATCHES, calls, || {
     black_box(black_box(&original).naive());
   });
-  let (plain_count, cpp) = ask(plain, calls, &list)?;
+  let (plain_count, cpp) = ask(plain, calls, &as_text(&list))?;
   if [plain_count, original.naive().len()] != [count; 2] {
     return Err(Error::other("the counts of pairs differ"));
   }
@@ -143,9 +149,9 @@ pub fn least(batches: usize, calls: usize, mut call: impl FnMut()) -> f64 {
   (0..batches).map(|_| batch()).fold(f64::INFINITY, f64::min)
 }
 
-/// The count of pairs and the nanoseconds of one call that a C++ program tells.
-pub fn ask(program: &Path, calls: usize, list: &[i32]) -> Result<(usize, f64)> {
-  let question = format!("{BATCHES} {calls} {}", as_text(list));
+/// The count of pairs and the nanoseconds of one call that a C++ program tells of charts.
+pub fn ask(program: &Path, calls: usize, charts: &str) -> Result<(usize, f64)> {
+  let question = format!("{BATCHES} {calls} {charts}");
   let told = answer(&mut Command::new(program), &question)?.stdout;
   let told = String::from_utf8_lossy(&told);
   let times = |(count, ns): (&str, &str)| Some((count.parse().ok()?, ns.parse().ok()?));

@@ -42,7 +42,11 @@ fn row(name: &str, chart: &Chart, programs: &Path) -> Result<()> {
   let once = least(1, 1, &mut sweep);
   let batches = (RUST_TIME / once).clamp(3.0, RUST_CALLS) as usize;
   let rust = least(batches, 1, sweep);
-  let cgal = where_had(ask(&programs.join("cgal"), calls, &list))?;
+  let cgal = where_had(ask(
+    &programs.join("cgal"),
+    calls,
+    &cgal_text(std::slice::from_ref(&list)),
+  ))?;
   let crossings = cgal.map_or(listed, |(count, _)| count);
   if [listed, crossings] != [swept.pairs; 2] {
     return Err(Error::other("the counts of pairs differ"));
@@ -58,14 +62,24 @@ fn row(name: &str, chart: &Chart, programs: &Path) -> Result<()> {
     told(cgal.map(|(_, ns)| ms(ns))),
     format!("{:.0}", rust / library),
     told(cgal.map(|(_, ns)| format!("{:.2}", library / ns))),
-    told(where_had(instructions(programs, &list))?),
+    told(where_had(instructions(
+      programs,
+      "mirtalughe_sweep",
+      &list,
+    ))?),
   ];
   println!("| {} |", cells.join(" | "));
   Ok(())
 }
 
+/// The count of charts, then each.
+pub fn cgal_text(lists: &[Vec<i32>]) -> String {
+  let charts: Vec<String> = lists.iter().map(|list| as_text(list)).collect();
+  format!("{} {}", lists.len(), charts.join(" "))
+}
+
 /// None where the program is not there.
-fn where_had<T>(answer: Result<T>) -> Result<Option<T>> {
+pub fn where_had<T>(answer: Result<T>) -> Result<Option<T>> {
   match answer {
     Ok(answer) => Ok(Some(answer)),
     Err(e) if e.kind() == ErrorKind::NotFound => Ok(None),
@@ -73,16 +87,19 @@ fn where_had<T>(answer: Result<T>) -> Result<Option<T>> {
   }
 }
 
-fn told<T: ToString>(cell: Option<T>) -> String {
+pub fn told<T: ToString>(cell: Option<T>) -> String {
   cell.map_or("-".to_string(), |v| v.to_string())
 }
 
-/// How many thousand instructions one call is, as valgrind counts them.
-fn instructions(programs: &Path, list: &[i32]) -> Result<u64> {
+/// How many thousand instructions one call of this name is, as valgrind counts them.
+pub fn instructions(programs: &Path, call: &str, list: &[i32]) -> Result<u64> {
   let mut valgrind = Command::new("valgrind");
   valgrind.args(["--tool=callgrind", "--callgrind-out-file=/dev/null"]);
-  valgrind.arg("--toggle-collect=mirtalughe_sweep");
-  let counted = answer(valgrind.arg(programs.join("once")), &as_text(list))?;
+  valgrind.arg(format!("--toggle-collect={call}"));
+  let counted = answer(
+    valgrind.arg(programs.join("once")).arg(call),
+    &as_text(list),
+  )?;
   let counted = String::from_utf8_lossy(&counted.stderr).into_owned();
   let count = counted.lines().find_map(|l| l.split("Collected : ").nth(1));
   let count: Option<u64> = count.and_then(|count| count.trim().parse().ok());

@@ -136,6 +136,124 @@ fn with_uprights(random: &mut Random, n: usize) -> Chart {
   })
 }
 
+/// Many upright pieces, with all marks, up to 12 pieces.
+pub fn uprights(random: &mut Random) -> Chart {
+  let n = random.between(2, 12) as usize;
+  match random.between(0, 4) {
+    0 => stacks(random, n),
+    1 => through_crossings(random, n),
+    2 => at_shared_ends(random, n),
+    3 => at_first_and_last(random, n),
+    _ => with_crossings_above(random, n),
+  }
+}
+
+fn upright(random: &mut Random, x: i32) -> Piece {
+  [
+    random.between(0, 3),
+    x,
+    random.between(-4, 4),
+    x,
+    random.between(-4, 4),
+  ]
+}
+
+fn sloped(random: &mut Random) -> Piece {
+  let (x1, x2) = (random.between(-4, -1), random.between(1, 4));
+  [
+    random.between(0, 3),
+    x1,
+    random.between(-4, 4),
+    x2,
+    random.between(-4, 4),
+  ]
+}
+
+/// Uprights on one, two or three lines, and a few pieces across them.
+fn stacks(random: &mut Random, n: usize) -> Chart {
+  let lines = random.between(0, 2);
+  many(n, || match random.between(0, 3) {
+    0 => sloped(random),
+    _ => {
+      let x = random.between(-lines, lines);
+      upright(random, x)
+    }
+  })
+}
+
+/// Pairs of pieces that cross over 0, each with an upright through the crossing, up to it or from it.
+fn through_crossings(random: &mut Random, n: usize) -> Chart {
+  let mut chart = Chart::new();
+  while chart.len() + 3 <= n.max(3) {
+    let (y, reach, rise, fall) = (
+      random.between(-2, 2),
+      random.between(1, 3),
+      random.between(0, 3),
+      random.between(-3, -1),
+    );
+    let from = random.pick(&[y, y, -4]);
+    let to = random.pick(&[y, 4, 4]);
+    let kinds = [0; 3].map(|_| random.between(0, 3));
+    chart.push([kinds[0], -reach, y - rise, reach, y + rise]);
+    chart.push([kinds[1], -reach, y - fall, reach, y + fall]);
+    if from != to {
+      chart.push([kinds[2], 0, from, 0, to]);
+    }
+  }
+  chart
+}
+
+/// Uprights and others between a few points.
+fn at_shared_ends(random: &mut Random, n: usize) -> Chart {
+  let points: Vec<[i32; 2]> = (0..6).map(|i| [i / 2 - 1, random.between(-3, 3)]).collect();
+  many(n, || {
+    let ([x1, y1], [x2, y2]) = (random.pick(&points), random.pick(&points));
+    match random.between(0, 2) {
+      0 => [random.between(0, 3), x1, y1, x2, y2],
+      _ => [random.between(0, 3), x1, y1, x1, random.pick(&points)[1]],
+    }
+  })
+}
+
+/// Uprights at the first and the last x of all.
+fn at_first_and_last(random: &mut Random, n: usize) -> Chart {
+  many(n, || match random.between(0, 2) {
+    0 => {
+      let x = random.pick(&[-3, 3]);
+      upright(random, x)
+    }
+    1 => [
+      random.between(0, 3),
+      -3,
+      random.between(-4, 4),
+      3,
+      random.between(-4, 4),
+    ],
+    _ => [
+      random.between(0, 3),
+      random.pick(&[-3, 0]),
+      random.between(-4, 4),
+      random.pick(&[1, 3]),
+      random.between(-4, 4),
+    ],
+  })
+}
+
+/// Several crossings over 0, and uprights there: some go through one, some pass between two.
+fn with_crossings_above(random: &mut Random, n: usize) -> Chart {
+  many(n, || match random.between(0, 2) {
+    0 => upright(random, 0),
+    _ => {
+      let (y, reach, rise) = (
+        random.between(-2, 2),
+        random.between(1, 3),
+        random.between(-3, 3),
+      );
+      [random.between(0, 3), -reach, y - rise, reach, y + rise]
+    }
+  })
+}
+
 /// Any coordinates, any count up to the limit; ends at most `reach` apart.
 pub fn scattered(random: &mut Random, n: usize, reach: i32) -> Chart {
   many(n, || {

@@ -46,3 +46,72 @@ pub fn charts() -> Vec<Chart> {
     vec![],
   ]
 }
+
+/// Charts on which upright pieces are easily lost.
+pub fn uprights() -> Vec<Chart> {
+  vec![
+    // collinear uprights with all marks, end to end and over one another, and one piece across
+    vec![
+      [0, 0, 0, 0, 2],
+      [1, 0, 2, 0, 4],
+      [2, 0, 4, 0, 6],
+      [3, 0, 6, 0, 8],
+      [3, 0, 1, 0, 7],
+      [3, -2, 4, 2, 4],
+    ],
+    // uprights through a crossing, up to it and from it, with and without that end
+    vec![
+      [3, -2, -2, 2, 2],
+      [3, -2, 2, 2, -2],
+      [3, 0, -3, 0, 3],
+      [3, 0, -3, 0, 0],
+      [1, 0, -3, 0, 0],
+      [3, 0, 0, 0, 3],
+      [2, 0, 0, 0, 3],
+    ],
+    // uprights at the first and the last x, through shared ends
+    vec![
+      [3, 0, 0, 4, 4],
+      [3, 0, 4, 4, 0],
+      [3, 0, 0, 0, 4],
+      [3, 4, 0, 4, 4],
+      [0, 0, 1, 0, 3],
+    ],
+    // two that meet straight above a point: by height and rising slope alone they are exchanged there, too early
+    vec![[3, -2, -1, 1, 0], [3, -3, 0, 1, 0], [3, 1, -2, 1, 2]],
+    // several crossings at one x, and uprights between them and through them
+    vec![
+      [3, -1, -1, 1, 1],
+      [3, -1, 1, 1, -1],
+      [3, -1, 2, 1, 4],
+      [3, -1, 4, 1, 2],
+      [3, 0, 1, 0, 2],
+      [3, 0, -2, 0, 5],
+    ],
+  ]
+}
+
+/// Charts of several pairs with one first common point.
+pub fn ties() -> Vec<Chart> {
+  vec![
+    // one first common point for all pairs, of crossings, ends and stretches: the numbers decide
+    vec![
+      [3, -4, -4, 4, 4],
+      [3, 4, -4, -4, 4],
+      [3, -3, 0, 3, 0],
+      [3, 0, 0, 5, 1],
+      [3, 0, 0, 10, 2],
+      [1, 0, 0, 5, -9],
+      [3, -2, 4, 2, -4],
+    ],
+    // two such points one below the other
+    vec![
+      [3, -2, 0, 2, 0],
+      [3, -2, -2, 2, 2],
+      [3, -2, 2, 2, -2],
+      [3, -2, 5, 2, 5],
+      [3, -2, 3, 2, 7],
+      [3, -2, 7, 2, 3],
+    ],
+  ]
+}

@@ -14,6 +14,13 @@ unsafe extern "C" {
   fn mirtalughe_read(file: *const u8, size: usize, list: *mut i32, lent: usize) -> Answer;
   fn mirtalughe_write(list: *const i32, length: usize, file: *mut u8, lent: usize) -> Answer;
   fn mirtalughe_all_pairs(list: *const i32, length: usize, pairs: *mut u8, lent: usize) -> Answer;
+  fn mirtalughe_full_sweep(
+    list: *const i32,
+    length: usize,
+    budget: u32,
+    pairs: *mut u8,
+    lent: usize,
+  ) -> SweptFields;
   fn mirtalughe_sweep(
     list: *const i32,
     length: usize,
@@ -203,9 +210,19 @@ pub fn all_pairs(list: &[i32], pairs: &mut [u8]) -> Answer {
   unsafe { mirtalughe_all_pairs(list.as_ptr(), list.len(), pairs.as_mut_ptr(), pairs.len()) }
 }
 
+type Sweeps = unsafe extern "C" fn(*const i32, usize, u32, *mut u8, usize) -> SweptFields;
+
 pub fn sweep(list: &[i32], budget: u32, pairs: &mut [u8]) -> Swept {
+  swept(mirtalughe_sweep, list, budget, pairs)
+}
+
+pub fn full_sweep(list: &[i32], budget: u32, pairs: &mut [u8]) -> Swept {
+  swept(mirtalughe_full_sweep, list, budget, pairs)
+}
+
+fn swept(call: Sweeps, list: &[i32], budget: u32, pairs: &mut [u8]) -> Swept {
   let (length, lent) = (list.len(), pairs.len());
-  let told = unsafe { mirtalughe_sweep(list.as_ptr(), length, budget, pairs.as_mut_ptr(), lent) };
+  let told = unsafe { call(list.as_ptr(), length, budget, pairs.as_mut_ptr(), lent) };
   let point = Point {
     x: told.x.into(),
     y: told.y.into(),

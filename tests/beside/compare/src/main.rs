@@ -9,11 +9,13 @@
 
 mod answers;
 mod bench;
+mod bench_full;
 mod bench_sweep;
 mod case;
 mod charts;
 mod file;
 mod files;
+mod full;
 mod half_line;
 mod kept;
 mod lent;
@@ -156,6 +158,7 @@ fn gate(share: usize) -> Vec<Family> {
       random("near-whole", GATE_SEED, 2_000, charts::near_wholes),
       share,
     ),
+    thinned(random("upright", GATE_SEED, 8_000, charts::uprights), share),
     thinned(random("any-size", GATE_SEED, 300, charts::any_size), share),
     thinned(
       random("full-size", GATE_SEED, 1_000, charts::full_size),
@@ -189,13 +192,14 @@ fn long(seed: u64, count: usize) -> Vec<Family> {
     random("near-tied", seed, count, charts::near_ties),
     random("half-way", seed, count, charts::near_halves),
     random("near-whole", seed, count, charts::near_wholes),
+    random("upright", seed, count, charts::uprights),
     random("any-size", seed, count, charts::any_size),
     random("full-size", seed, count, charts::full_size),
   ]
 }
 
 fn kept() -> Family {
-  let charts = kept::charts();
+  let charts = [kept::charts(), kept::uprights(), kept::ties()].concat();
   Family {
     name: "kept",
     count: charts.len(),

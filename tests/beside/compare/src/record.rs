@@ -6,10 +6,11 @@ use std::fs;
 use std::io;
 use std::path::Path;
 
-use crate::answers::{Chart, End, Meeting, Point, is_upright};
+use crate::answers::{Chart, End, Meeting, Pair, Point, is_upright};
 use crate::charts::{self, Random};
 use crate::file;
 use crate::files;
+use crate::full::Due;
 use crate::kept;
 use crate::original::{self, Original};
 use crate::place;
@@ -24,11 +25,12 @@ pub fn write(folder: &Path) -> io::Result<()> {
     asked.extend(record(b'r', &bytes));
     told += &reading(&bytes);
   }
-  let questions: [(u8, &[Chart], fn(&Chart) -> String); 5] = [
+  let questions: [(u8, &[Chart], fn(&Chart) -> String); 6] = [
     (b'm', &two, segment),
     (b'p', &two, place),
     (b'a', &any, naive),
     (b's', &any, sweep),
+    (b'f', &any, full_sweep),
     (b'l', &any, listing),
   ];
   for (letter, charts, answer) in questions {
@@ -84,6 +86,9 @@ fn charts_of_any_count() -> Vec<Chart> {
     .chain(wide)
     .chain(random(10, charts::full_size))
     .chain(random(40, charts::near_wholes))
+    .chain(kept::uprights())
+    .chain(random(80, charts::uprights))
+    .chain(kept::ties())
     .collect()
 }
 
@@ -139,28 +144,45 @@ fn naive(chart: &Chart) -> String {
 /// empty, the last point; then the list.
 fn sweep(chart: &Chart) -> String {
   let run = Original::new(chart).run();
-  let mut text = format!("chart {} complete {}\n", chart.len(), complete(chart));
-  let _ = writeln!(
-    text,
-    "0 listed 0 ended {} none",
-    yes_no(run.steps.is_empty())
-  );
-  for (m, step) in run.steps.iter().enumerate() {
-    let ended = yes_no(m + 1 == run.steps.len());
-    let (listed, visited) = (step.listed, point(&step.visited));
-    let _ = writeln!(text, "{} listed {listed} ended {ended} at {visited}", m + 1);
+  let steps: Vec<(usize, Point)> = run
+    .steps
+    .iter()
+    .map(|step| (step.listed, step.visited))
+    .collect();
+  stops(chart, !chart.iter().any(is_upright), &steps, &run.list)
+}
+
+/// The same of the new mode, from the Rust's all pairs.
+fn full_sweep(chart: &Chart) -> String {
+  let due = Due::of(chart, &Original::new(chart));
+  let step = |(m, p): (usize, &Point)| (due.stopped(m as u32 + 1).pairs, *p);
+  let steps: Vec<(usize, Point)> = due.points.iter().enumerate().map(step).collect();
+  stops(chart, true, &steps, &due.pairs())
+}
+
+fn stops(chart: &Chart, complete: bool, steps: &[(usize, Point)], list: &[Pair]) -> String {
+  let mut text = format!("chart {} complete {}\n", chart.len(), yes_no(complete));
+  let _ = writeln!(text, "0 listed 0 ended {} none", yes_no(steps.is_empty()));
+  for (m, (listed, visited)) in steps.iter().enumerate() {
+    let ended = yes_no(m + 1 == steps.len());
+    let _ = writeln!(
+      text,
+      "{} listed {listed} ended {ended} at {}",
+      m + 1,
+      point(visited)
+    );
   }
-  let pairs: String = run.list.iter().map(|(a, b)| format!(" {a} {b}")).collect();
+  let pairs: String = list.iter().map(|(a, b)| format!(" {a} {b}")).collect();
   let _ = writeln!(text, "list{pairs}");
   text
 }
 
-/// The chart program's text.
+/// The chart program's text, in the new mode.
 fn listing(chart: &Chart) -> String {
   let original = Original::new(chart);
-  let run = original.run();
-  let mut text = format!("chart {}\ncomplete {}\n", chart.len(), complete(chart));
-  for (a, b) in run.list {
+  let due = Due::of(chart, &original);
+  let mut text = format!("chart {}\ncomplete yes\n", chart.len());
+  for (a, b) in due.pairs() {
     let place = match &points(&original, a, b)[..] {
       [] => unreachable!("listed pairs meet"),
       [p] => format!("at {} {}", units(p.x, p.d), units(p.y, p.d)),
@@ -168,7 +190,7 @@ fn listing(chart: &Chart) -> String {
     };
     let _ = writeln!(text, "pair {a} {b} {place}");
   }
-  let _ = writeln!(text, "steps {}", run.steps.len());
+  let _ = writeln!(text, "steps {}", due.points.len());
   text
 }
 
@@ -176,10 +198,6 @@ fn listing(chart: &Chart) -> String {
 fn units(v: i128, d: i128) -> String {
   let (low, high) = (v.div_euclid(d), -(-v).div_euclid(d));
   format!("{low} {high}")
-}
-
-fn complete(chart: &Chart) -> &'static str {
-  yes_no(!chart.iter().any(is_upright))
 }
 
 fn yes_no(yes: bool) -> &'static str {

@@ -46,7 +46,8 @@ fn answered(
   agree(call, "scope", Answer::of(pairs), "library", listed)
 }
 
-/// "All pairs: (1,0), (2,0). Sweep, as in the Rust: only (0,1), 7 steps, not complete."
+/// "All pairs: (1,0), (2,0). Sweep, as in the Rust: only (0,1), 7 steps, not complete. In the new mode: (0,1), (0,2), 8
+/// steps, complete."
 fn upright_gap() -> Result<(), String> {
   let chart = vec![[3, 0, 0, 0, 10], [3, -5, 3, 5, 3], [3, -5, 6, 5, 6]];
   let (all, swept): (Vec<Pair>, Vec<Pair>) = (vec![(1, 0), (2, 0)], vec![(0, 1)]);
@@ -72,6 +73,17 @@ fn upright_gap() -> Result<(), String> {
     last: Some(Point::whole(5, 6)),
     ..Swept::default()
   };
-  let expected = (expected, lent::with_pairs(&lent, &swept));
-  agree(call, "scope", expected, "library", (answer, bytes))
+  let due = (expected, lent::with_pairs(&lent, &swept));
+  agree(call, "scope", due, "library", (answer, bytes))?;
+
+  let mut bytes = lent.clone();
+  let answer = library::full_sweep(&numbers(&chart), u32::MAX, &mut bytes);
+  let expected = Swept {
+    pairs: 2,
+    steps: 8,
+    complete: true,
+    ..expected
+  };
+  let due = (expected, lent::with_pairs(&lent, &[(0, 1), (0, 2)]));
+  agree(call, "scope", due, "library", (answer, bytes))
 }

@@ -1,10 +1,10 @@
 //! The sweep: its list, and its state after every step. The Rust as published, the Rust that tells
 //! its steps, the model, the library's own text, and the library stopped at many budgets. Without
-//! upright pieces the sweep loses and invents nothing.
+//! upright pieces the sweep loses and invents nothing. The new mode stands in full.rs.
 
 use crate::answers::{Pair, Run, is_upright};
 use crate::case::{Case, same};
-use crate::{model_sweep, sweep_call, text};
+use crate::{full, model_sweep, sweep_call, text};
 
 pub fn compare(case: &Case) -> Result<(), String> {
   let list = case.original.sweep();
@@ -15,6 +15,7 @@ pub fn compare(case: &Case) -> Result<(), String> {
   compare_steps(&run, "model", &model_sweep::run(&case.chart))?;
   compare_steps(&run, "library, by its text", &text::run(&case.chart)?)?;
   sweep_call::compare(case, &run)?;
+  full::compare(case, &run)?;
 
   if case.chart.iter().any(is_upright) {
     return Ok(());

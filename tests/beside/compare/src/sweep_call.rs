@@ -1,6 +1,6 @@
-//! The library's sweep into lent bytes, stopped at every budget, beside the Rust's steps; and its refusals.
+//! A call that sweeps into lent bytes, stopped at every budget, beside what is due there; and its refusals.
 
-use crate::answers::{MOST_PIECES, Run, Swept, is_upright};
+use crate::answers::{MOST_PIECES, Pair, Run, Swept, is_upright};
 use crate::case::{Case, agree};
 use crate::lent::{self, SPARE, room};
 use crate::library;
@@ -9,28 +9,99 @@ use crate::refusals::{damaged, numbers};
 /// Beyond the end of every sweep; the first is negative in 32 bits with a sign.
 const ENDLESS: [u32; 2] = [1 << 31, u32::MAX];
 
+/// The library's call, and whose answers are due.
+#[derive(Clone, Copy)]
+pub struct Asked {
+  pub call: &'static str,
+  pub whose: &'static str,
+  pub library: fn(&[i32], u32, &mut [u8]) -> Swept,
+}
+
+/// What is due at a budget: the answer, and the list from whose front its pairs come.
+pub struct Stop<'a> {
+  pub swept: Swept,
+  pub list: &'a [Pair],
+}
+
+/// The ported sweep, beside the Rust's steps.
 pub fn compare(case: &Case, run: &Run) -> Result<(), String> {
-  let list = numbers(&case.chart);
   let complete = !case.chart.iter().any(is_upright);
-  let enough = room(case.chart.len());
-  for budget in budgets(case, run.steps.len() as u32) {
-    compare_stop(&list, enough, run, complete, budget)?;
-  }
-  let endless = u32::MAX;
-  compare_stop(&list, enough + SPARE, run, complete, endless)?;
-  for budget in [0, endless] {
-    for lent in [0, enough.saturating_sub(1)] {
-      if lent < enough {
-        compare_refusal(&list, lent, budget, (8, 0))?;
+  let asked = Asked {
+    call: "sweep",
+    whose: "Rust",
+    library: library::sweep,
+  };
+  asked.compare(case, run.steps.len() as u32, |budget| Stop {
+    swept: stopped(run, complete, budget),
+    list: &run.list,
+  })
+}
+
+impl Asked {
+  pub fn compare<'a>(
+    self,
+    case: &Case,
+    end: u32,
+    due: impl Fn(u32) -> Stop<'a>,
+  ) -> Result<(), String> {
+    let list = numbers(&case.chart);
+    let enough = room(case.chart.len());
+    for budget in budgets(case, end) {
+      self.compare_stop(&list, enough, budget, due(budget))?;
+    }
+    let endless = u32::MAX;
+    self.compare_stop(&list, enough + SPARE, endless, due(endless))?;
+    for budget in [0, endless] {
+      for lent in [0, enough.saturating_sub(1)] {
+        if lent < enough {
+          self.compare_refusal(&list, lent, budget, (8, 0))?;
+        }
+      }
+      for (list, refusal) in damaged(&case.chart) {
+        for lent in [0, room(MOST_PIECES + 1)] {
+          self.compare_refusal(&list, lent, budget, refusal)?;
+        }
       }
     }
-    for (list, refusal) in damaged(&case.chart) {
-      for lent in [0, room(MOST_PIECES + 1)] {
-        compare_refusal(&list, lent, budget, refusal)?;
-      }
-    }
+    Ok(())
   }
-  Ok(())
+
+  /// The answer of a sweep that is not refused, and every lent byte.
+  fn compare_stop(self, list: &[i32], lent: usize, budget: u32, due: Stop) -> Result<(), String> {
+    let content = lent::with_pairs(&lent::bytes(lent), &due.list[..due.swept.pairs]);
+    self.compare_call(list, lent, budget, self.whose, (due.swept, content))
+  }
+
+  /// "A refusal .. writes nothing into lent memory."
+  fn compare_refusal(
+    self,
+    list: &[i32],
+    lent: usize,
+    budget: u32,
+    refusal: (u8, usize),
+  ) -> Result<(), String> {
+    let expected = (Swept::refused(refusal), lent::bytes(lent));
+    self.compare_call(list, lent, budget, "scope", expected)
+  }
+
+  fn compare_call(
+    self,
+    list: &[i32],
+    lent: usize,
+    budget: u32,
+    whose: &str,
+    expected: (Swept, Vec<u8>),
+  ) -> Result<(), String> {
+    let mut bytes = lent::bytes(lent);
+    let swept = (self.library)(list, budget, &mut bytes);
+    let call = || {
+      format!(
+        "{} of {list:?} with budget {budget} into {lent} bytes",
+        self.call
+      )
+    };
+    agree(call, whose, expected, "library", (swept, bytes))
+  }
 }
 
 /// Every one up to past the end of a small chart; a few of a large one.
@@ -42,43 +113,6 @@ fn budgets(case: &Case, end: u32) -> Vec<u32> {
   };
   budgets.extend(ENDLESS);
   budgets
-}
-
-/// The answer of a sweep that is not refused, and every lent byte.
-fn compare_stop(
-  list: &[i32],
-  lent: usize,
-  run: &Run,
-  complete: bool,
-  budget: u32,
-) -> Result<(), String> {
-  let swept = stopped(run, complete, budget);
-  let content = lent::with_pairs(&lent::bytes(lent), &run.list[..swept.pairs]);
-  compare_call(list, lent, budget, "Rust", (swept, content))
-}
-
-/// "A refusal .. writes nothing into lent memory."
-fn compare_refusal(
-  list: &[i32],
-  lent: usize,
-  budget: u32,
-  refusal: (u8, usize),
-) -> Result<(), String> {
-  let expected = (Swept::refused(refusal), lent::bytes(lent));
-  compare_call(list, lent, budget, "scope", expected)
-}
-
-fn compare_call(
-  list: &[i32],
-  lent: usize,
-  budget: u32,
-  whose: &str,
-  expected: (Swept, Vec<u8>),
-) -> Result<(), String> {
-  let mut bytes = lent::bytes(lent);
-  let swept = library::sweep(list, budget, &mut bytes);
-  let call = || format!("sweep of {list:?} with budget {budget} into {lent} bytes");
-  agree(call, whose, expected, "library", (swept, bytes))
 }
 
 /// What the Rust's steps say of a sweep with this budget.

@@ -1,6 +1,9 @@
-//! The library's own text, read as Rust, so that its sweep can tell its state after every step.
+//! The library's own text, read as Rust, so that its sweep can tell its state after every step, and the new mode be asked
+//! without an emulator.
 
-use crate::answers::{Chart, MOST_PIECES, Pair, Point, Run, Step};
+use bentley_ottmann::Last;
+
+use crate::answers::{Chart, MOST_PIECES, Pair, Point, Run, Step, Swept};
 use crate::lent::{self, room};
 use crate::model;
 use crate::refusals::numbers;
@@ -18,6 +21,27 @@ pub fn run(chart: &Chart) -> Result<Run, String> {
     steps: steps?,
     list: pairs(&bytes[..2 * swept.pairs]),
   })
+}
+
+/// The new mode's call.
+pub fn full_sweep(list: &[i32], budget: u32, bytes: &mut [u8]) -> Swept {
+  let told = full_sweep::sweep(list, budget, bytes);
+  Swept {
+    number: told.number,
+    place: told.place,
+    pairs: told.pairs,
+    steps: told.steps,
+    ended: told.ended,
+    complete: told.complete,
+    last: match told.last {
+      Last::None => None,
+      Last::At(p) => Some(Point {
+        x: p.x.into(),
+        y: p.y.into(),
+        d: p.d.into(),
+      }),
+    },
+  }
 }
 
 /// A pair has a mark exactly where it waits or is listed, and the waiting ones stand in the order of

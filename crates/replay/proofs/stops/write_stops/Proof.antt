@@ -7,10 +7,10 @@ use Rattle.replay.proofs.stops.write_stops.Statement.{statement}
 use Rattle.replay.proofs.stops.write_stops.Tie as tie
 
 abbrev Inv-loop : tie.InvT-loop
-Inv-loop list bytes₀ budget₀ bytes budget = (budget < 2 ^ 32) × (length bytes ≡ length bytes₀)
+Inv-loop list full bytes₀ budget₀ bytes budget = (budget < 2 ^ 32) × (length bytes ≡ length bytes₀)
 
 abbrev μ-loop : tie.MeasureT-loop
-μ-loop list bytes₀ budget₀ bytes budget = 2 ^ 32 - budget
+μ-loop list full bytes₀ budget₀ bytes budget = 2 ^ 32 - budget
 
 pub write-stops-spec : {M : Type 1} → statement M
 write-stops-spec =

@@ -1,0 +1,2 @@
+-- What the contracts of a visit cite.
+pub mod Visit

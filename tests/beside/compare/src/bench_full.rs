@@ -1,0 +1,84 @@
+//! How long a sweep takes in the new mode, beside the ported one and CGAL: of one chart again and again, which the
+//! processor learns by heart, and of 64 charts in turn.
+
+use std::hint::black_box;
+use std::io::{Error, Result};
+use std::path::Path;
+
+use crate::answers::{Chart, Swept};
+use crate::bench::{BATCHES, ask, least, tempers};
+use crate::bench_sweep::{cgal_text, instructions, told, where_had};
+use crate::lent::room;
+use crate::library;
+use crate::refusals::numbers;
+
+const IN_TURN: usize = 64;
+
+type Call = fn(&[i32], u32, &mut [u8]) -> Swept;
+
+pub fn print(programs: &Path) -> Result<()> {
+  println!(
+    "| chart | pieces | charts in turn | pairs | steps | new, us | ported, us | CGAL, us | ported / new | CGAL / new | instructions, thousands |"
+  );
+  println!("|---|---|---|---|---|---|---|---|---|---|---|");
+  let charts: Vec<[(&str, Chart); 4]> = (0..IN_TURN).map(tempers).collect();
+  for temper in 0..4 {
+    for n in [16, 64] {
+      let cut = |charts: &[(&str, Chart); 4]| charts[temper].1[..n].to_vec();
+      let charts_of: Vec<Chart> = charts.iter().map(cut).collect();
+      for count in [1, IN_TURN] {
+        row(charts[0][temper].0, &charts_of[..count], programs)?;
+      }
+    }
+  }
+  Ok(())
+}
+
+fn row(name: &str, charts: &[Chart], programs: &Path) -> Result<()> {
+  let (n, count) = (charts[0].len(), charts.len());
+  let lists: Vec<Vec<i32>> = charts.iter().map(numbers).collect();
+  let mut bytes = vec![0; room(n)];
+  let swept: Vec<Swept> = lists
+    .iter()
+    .map(|list| library::full_sweep(list, u32::MAX, &mut bytes))
+    .collect();
+  let pairs: usize = swept.iter().map(|swept| swept.pairs).sum();
+  let steps: u32 = swept.iter().map(|swept| swept.steps).sum();
+  let rounds = (40_000 / steps as usize).max(1);
+  let mut time = |call: Call| {
+    let round = || {
+      for list in &lists {
+        black_box(call(black_box(list), u32::MAX, &mut bytes));
+      }
+    };
+    least(BATCHES, rounds, round) / count as f64
+  };
+  let (new, ported) = (time(library::full_sweep), time(library::sweep));
+  let question = cgal_text(&lists);
+  let cgal = where_had(ask(&programs.join("cgal"), rounds * count, &question))?;
+  // no end of these charts is another's, so that every other point is a crossing; CGAL tells each once
+  let crossings = steps as usize - 2 * n * count;
+  if cgal.is_some_and(|(told, _)| told != crossings) {
+    return Err(Error::other("the counts of crossings differ"));
+  }
+  let us = |ns: f64| format!("{:.2}", ns / 1e3);
+  let counted = match count {
+    1 => where_had(instructions(programs, "mirtalughe_full_sweep", &lists[0]))?,
+    _ => None,
+  };
+  let cells = [
+    name.to_string(),
+    n.to_string(),
+    count.to_string(),
+    pairs.to_string(),
+    steps.to_string(),
+    us(new),
+    us(ported),
+    told(cgal.map(|(_, ns)| us(ns))),
+    format!("{:.1}", ported / new),
+    told(cgal.map(|(_, ns)| format!("{:.1}", ns / new))),
+    told(counted),
+  ];
+  println!("| {} |", cells.join(" | "));
+  Ok(())
+}
