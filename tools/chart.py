@@ -1,26 +1,47 @@
 #!/usr/bin/env python3
-"""Readable charts, chart files and pictures.
+"""Readable charts: what meets on them, pictures, pages and chart files.
 
+  chart.py list [--speed A B] [--json | --csv] [TEXT]
+                                                the meetings of a readable chart with the pieces' names, by speed; all of
+                                                them or those between two speeds; as a table or for other tools
+  chart.py page TEXT.. PAGE                     one HTML page of one readable chart or several, for a browser or a printer
+  chart.py draw TEXT [LISTING [PICTURE]]        a readable chart and what the program `chart` lists of it become an SVG
   chart.py encode [TEXT [FILE]]                 a readable chart becomes a chart file
   chart.py decode [FILE [TEXT]]                 and back
-  chart.py draw TEXT [LISTING [PICTURE]]        a readable chart and what the program `chart` lists of it become an SVG
   chart.py pairs [TEXT [FILE]]                  a supplier's list, two numbers a line, becomes bytes, two a pair
   chart.py tell TEXT PAIRS [ANSWER]             what examples/check.c answers of a readable chart's file and such bytes,
                                                 in a sentence with the pieces' names
 
 A name left out or - is standard input or output. A readable chart has a line for each piece, `kind x1 y1 x2 y2`; what
-follows # is a comment. A comment after a piece is its name in the picture; comments `# title: ..`, `# across: ..` and
-`# up: ..` are the picture's title and what its axes show."""
+follows # is a comment. A comment after a piece is its name; comments `# title: ..`, `# across: ..` and `# up: ..` are the
+chart's title and what its axes show. `list` and `page` run the proved program target/bin/chart, or the one
+that MIRTALUGHE_CHART names. A page's name ends in .html, so that no text is written over.
+
+The status is 0 where all went well, 1 where something given is wrong or a stream is closed or full, which is told, and 2
+where these words were not understood."""
 import sys
-from pathlib import Path
 
 import drawing
 import formats
+import meetings
+import page
+import program
 import supplied
+from streams import first, say, shown, write
+
+
+class Usage(Exception):
+    """The words of the command are not understood."""
 
 
 def main(words):
     command, *names = words or [""]
+    if command in ("help", "--help", "-h"):
+        return write("-", f"{__doc__}\n".encode())
+    if command == "list":
+        return write("-", listed(*list_words(names)))
+    if command == "page" and len(names) >= 2 and (names[-1] == "-" or names[-1].endswith(".html")):
+        return write(names[-1], paged(names[:-1]))
     if command in ("encode", "decode") and len(names) <= 2:
         turn = encoded if command == "encode" else decoded
         given, made = (names + ["-", "-"])[:2]
@@ -34,8 +55,38 @@ def main(words):
     if command == "tell" and 2 <= len(names) <= 3:
         source, pairs, answer = (names + ["-"])[:3]
         return write("-", told(source, pairs, answer))
-    print(__doc__, file=sys.stderr)
-    return 2
+    raise Usage(__doc__)
+
+
+def list_words(words):
+    """The text's name, the form and the two speeds or none."""
+    names, form, between, words = [], meetings.table, None, list(words)
+    while words:
+        word = words.pop(0)
+        if word == "--speed":
+            between, words = [formats.whole(speed) for speed in words[:2]], words[2:]
+            if len(between) != 2 or None in between or between[0] > between[1]:
+                raise Usage("chart.py: --speed takes two whole numbers, the lesser first")
+        elif word in meetings.FORMS and form is meetings.table:
+            form = meetings.FORMS[word]
+        elif word.startswith("--") or names:
+            raise Usage(__doc__)
+        else:
+            names.append(word)
+    return (names or ["-"])[0], form, between
+
+
+def listed(source, form, between):
+    chart = read(source, formats.chart_of_text)
+    listing = program.listing_of(chart)
+    if not listing.complete:
+        say(f"chart.py: {shown(source)}: {meetings.NOT_COMPLETE}")
+    return form(chart, listing, between)
+
+
+def paged(sources):
+    charts = [read(source, formats.chart_of_text) for source in sources]
+    return page.page([(source, chart, program.listing_of(chart)) for source, chart in zip(sources, charts)])
 
 
 def encoded(name):
@@ -43,7 +94,7 @@ def encoded(name):
 
 
 def decoded(name):
-    return formats.text_of_chart(read(name, formats.chart_of_file))
+    return formats.text_of_chart(read(name, formats.chart_of_file, formats.LONGEST_FILE + 1))
 
 
 def drawn(source, listing):
@@ -56,32 +107,26 @@ def drawn(source, listing):
 
 
 def told(source, pairs, answer):
-    chart, named = read(source, formats.chart_of_text), read(pairs, bytes)
+    chart, named = read(source, formats.chart_of_text), read(pairs, supplied.bytes_of_pairs)
     return read(answer, lambda data: f"{supplied.sentence(chart, named, data)}\n".encode())
 
 
-def read(name, form):
-    """What the form makes of a file's bytes. A fault is told with the file's name."""
+def read(name, form, most=formats.MOST_TEXT + 1):
+    """What the form makes of a file's bytes, of so many at most. A fault is told with the file's name."""
+    data = first(name, most)
     try:
-        return form(sys.stdin.buffer.read() if name == "-" else Path(name).read_bytes())
+        return form(data)
     except formats.Wrong as e:
         raise formats.Wrong(f"{shown(name)}, {e}") from None
-
-
-def shown(name):
-    return "standard input" if name == "-" else name
-
-
-def write(name, data):
-    if name == "-":
-        sys.stdout.buffer.write(data)
-    else:
-        Path(name).write_bytes(data)
-    return 0
 
 
 if __name__ == "__main__":
     try:
         sys.exit(main(sys.argv[1:]))
-    except (formats.Wrong, OSError) as e:
+    except Usage as e:
+        say(e)
+        sys.exit(2)
+    except formats.Wrong as e:
         sys.exit(f"chart.py: {e}")
+    except KeyboardInterrupt:
+        sys.exit(130)

@@ -19,32 +19,40 @@ INCLUDED, EXCLUDED, RING, THICK = 3.5, 6, 8.5, 14
 SEEN = 4
 SMALL, CHARACTER = 11, 0.6
 LONGEST_NAME, MOST_PAIRS = 40, 4
-# How far a label may stand off its mark. Among a crowd of places labels cover each other wherever they stand.
+# How far a label may stand off its mark. Among a crowd of places labels cover each other wherever they stand, and each
+# stands right beside its mark.
 GAPS, CROWD = (4, 10, 18, 30, 44), 200
 
 
 def picture(chart, listing):
     """The SVG's text. The listing is of this chart."""
-    pieces, meetings = chart.pieces, listing.meetings
-    names = named(pieces)
-    frame = Frame(pieces, meetings, legend_width(names))
+    parts = [*head(chart, listing), *marks_of(chart, listing, frame_of(chart, listing)), "</svg>"]
+    return "".join(part + "\n" for part in parts).encode()
+
+
+def frame_of(chart, listing):
+    return Frame(chart.pieces, listing.meetings, legend_width(named(chart.pieces)))
+
+
+def marks_of(chart, listing, frame):
+    """Everything but the head. A mark of a piece has its number as data-piece, one of a place where pieces meet the place's
+    number, in the listing's order, as data-place, and one of a name its pieces' numbers as data-pieces: a page finds them by
+    these."""
+    pieces, names = chart.pieces, named(chart.pieces)
     styles = styles_of(pieces)
-    places = by_place(meetings)
+    places = by_place(listing.meetings)
     room = Room(frame.box, [frame.line(piece) for piece in pieces])
     marks = [*drawn_ends(pieces, frame, styles, room), *drawn_meetings(places, frame, room)]
-    parts = [
-        *head(chart, listing),
+    return [
         *key(WIDTH - MARGIN - 450, HEIGHT - 16),
         *axes(frame, chart.headings),
-        *drawn_overlaps(meetings, frame),
+        *drawn_overlaps(places, frame),
         *drawn_pieces(pieces, frame, styles),
         *marks,
         *drawn_tags(pieces, frame, styles, room),
         *drawn_pairs(places, frame, room),
         *legend(names, styles, frame),
-        "</svg>",
     ]
-    return "".join(part + "\n" for part in parts).encode()
 
 
 class Frame:
@@ -145,11 +153,15 @@ def written(attributes):
 
 
 def head(chart, listing):
-    title = chart.headings.get("title", "Chart")
     pairs = f"{counted(len(listing.meetings), 'pair')} of {counted(len(chart.pieces), 'piece')} listed"
     told = f"{pairs} in {counted(listing.steps, 'step')}"
     if not listing.complete:
         told += "; not complete, for a piece is upright"
+    return sheet(chart.headings.get("title", "Chart"), told)
+
+
+def sheet(title, told):
+    """The paper, with the title and what is told under it."""
     return [
         f'<svg xmlns="http://www.w3.org/2000/svg" viewBox="0 0 {WIDTH} {HEIGHT}" width="{WIDTH}" height="{HEIGHT}" '
         f'font-family="Helvetica, Arial, sans-serif" font-size="13" fill="{INK}">',
@@ -194,42 +206,49 @@ def axes(frame, headings):
     yield text(0, 0, up, text_anchor="middle", font_size=14, transform=f"translate(26 {px(middle[1])}) rotate(-90)")
 
 
-def drawn_overlaps(meetings, frame):
+def drawn_overlaps(places, frame):
     """A thick stretch."""
-    for m in meetings:
-        if isinstance(m.place, Along):
-            start, end = (frame.at(*corner) for corner in m.place.corners())
-            ends, told = (*start, *end), f"pair {m.pair[0]} {m.pair[1]} {m.place}"
-            yield line(*ends, told, role="overlap", stroke=OVERLAP, stroke_width=THICK, stroke_linecap="round")
+    for number, (place, pairs) in enumerate(places.items()):
+        if isinstance(place, Along):
+            start, end = (frame.at(*corner) for corner in place.corners())
+            look = dict(stroke=OVERLAP, stroke_width=THICK, stroke_linecap="round", data_place=number)
+            yield line(*start, *end, told_of(place, pairs), role="overlap", **look)
+
+
+def told_of(place, pairs):
+    return ", ".join(f"pair {a} {b}" for a, b in pairs) + f" {place}"
 
 
 def drawn_pieces(pieces, frame, styles):
     for number, (piece, (colour, dash)) in enumerate(zip(pieces, styles)):
         told = f"piece {number} {piece.name}".strip() + f": {' '.join(map(str, piece.numbers()))}"
-        yield line(*frame.line(piece), told, role="piece", stroke=colour, stroke_width=2.2, stroke_dasharray=dash)
+        look = dict(stroke=colour, stroke_width=2.2, stroke_dasharray=dash, data_piece=number)
+        yield line(*frame.line(piece), told, role="piece", **look)
 
 
 def drawn_ends(pieces, frame, styles, room):
     """An excluded end is open, an included one filled and smaller, so that both show where one line ends and another
     begins anew."""
-    ends = [(*end, colour) for piece, (colour, _) in zip(pieces, styles) for end in piece.ends()]
-    for x, y, included, colour in sorted(ends, key=lambda end: end[2]):
-        at = frame.at(x, y)
+    ends = [(*end, number) for number, piece in enumerate(pieces) for end in piece.ends()]
+    for x, y, included, number in sorted(ends, key=lambda end: end[2]):
+        at, colour = frame.at(x, y), styles[number][0]
         role, r, fill = ("included", INCLUDED, colour) if included else ("excluded", EXCLUDED, PAPER)
         room.take(Box.around(*at, 2 * r, 2 * r))
-        yield circle(*at, r, role=f"end {role}", fill=fill, stroke=colour, stroke_width=1.8)
+        yield circle(*at, r, role=f"end {role}", fill=fill, stroke=colour, stroke_width=1.8, data_piece=number)
 
 
 def drawn_meetings(places, frame, room):
     """A ring in the middle of a point's cell, and the cell where it can be told from a point."""
-    for place, pairs in places.items():
+    for number, (place, pairs) in enumerate(places.items()):
         if isinstance(place, At):
             at, cell = frame.at(*place.middle()), frame.cell(place)
-            room.take(Box.around(*at, 2 * RING + 6, 2 * RING + 6))
+            if len(places) < CROWD:
+                room.take(Box.around(*at, 2 * RING + 6, 2 * RING + 6))
             if max(cell.right - cell.left, cell.bottom - cell.top) > SEEN:
-                yield outline(cell, role="cell", stroke=MEETS, stroke_width=0.9, stroke_dasharray="3 3")
-            told = ", ".join(f"pair {a} {b}" for a, b in pairs) + f" {place}"
-            yield circle(*at, RING, told, role="meeting", fill="none", stroke=MEETS, stroke_width=1.8)
+                look = dict(stroke=MEETS, stroke_width=0.9, stroke_dasharray="3 3", data_place=number)
+                yield outline(cell, role="cell", **look)
+            look = dict(fill="none", stroke=MEETS, stroke_width=1.8, data_place=number)
+            yield circle(*at, RING, told_of(place, pairs), role="meeting", **look)
 
 
 def outline(box, **attributes):
@@ -246,8 +265,8 @@ def drawn_tags(pieces, frame, styles, room):
         spots = along(*frame.line(piece))
         room_found = room.best([Box.around(*spot, wide + 14, 30) for spot in spots], own=number)
         box = Box.around(*room_found.middle(), wide, 16)
-        yield rectangle(box, role="tag", rx=4, fill=PAPER, stroke=colour, stroke_width=1.4)
-        yield label(box, str(number), fill=colour)
+        yield rectangle(box, role="tag", rx=4, fill=PAPER, stroke=colour, stroke_width=1.4, data_piece=number)
+        yield label(box, str(number), fill=colour, data_piece=number)
 
 
 def label(box, words, **attributes):
@@ -265,19 +284,25 @@ def along(x1, y1, x2, y2):
 def drawn_pairs(places, frame, room):
     """The pairs of a place, beside its ring or stretch; a thin line leads there from afar or from between two."""
     rings = [frame.at(*place.middle()) for place in places if isinstance(place, At)]
-    gaps = GAPS if len(places) < CROWD else GAPS[:1]
-    for place, pairs in places.items():
+    halo = dict(stroke=PAPER, stroke_width=3, paint_order="stroke", stroke_linejoin="round")
+    for number, (place, pairs) in enumerate(places.items()):
         x, y = frame.at(*place.middle()) if isinstance(place, At) else clear_of(rings, place, frame)
-        words = " ".join(f"{a},{b}" for a, b in pairs[:MOST_PAIRS])
-        if len(pairs) > MOST_PAIRS:
-            words += f" and {len(pairs) - MOST_PAIRS:,} more"
+        words = pairs_told(pairs)
         wide = CHARACTER * SMALL * len(words)
-        box = room.best([Box.around(x + dx, y + dy, wide, SMALL) for dx, dy in around(wide, gaps)])
-        off = box.distance(x, y)
-        if off > RING + 8 or any(box.distance(*ring) < 1.4 * off for ring in rings if ring != (x, y)):
-            yield leader(*box.nearest(x, y), x, y)
-        halo = dict(stroke=PAPER, stroke_width=3, paint_order="stroke", stroke_linejoin="round")
-        yield label(box, words, role="pair", fill=MEETS, **halo)
+        if len(places) < CROWD:
+            box = room.best([Box.around(x + dx, y + dy, wide, SMALL) for dx, dy in around(wide, GAPS)])
+            off = box.distance(x, y)
+            if off > RING + 8 or any(box.distance(*ring) < 1.4 * off for ring in rings if ring != (x, y)):
+                yield leader(*box.nearest(x, y), x, y, data_place=number)
+        else:
+            side = 1 if x + RING + wide < frame.box.right else -1
+            box = Box.around(x + side * (RING + GAPS[0] + wide / 2), y, wide, SMALL)
+        yield label(box, words, role="pair", fill=MEETS, data_place=number, **halo)
+
+
+def pairs_told(pairs):
+    words = " ".join(f"{a},{b}" for a, b in pairs[:MOST_PAIRS])
+    return words + f" and {len(pairs) - MOST_PAIRS:,} more" if len(pairs) > MOST_PAIRS else words
 
 
 def clear_of(rings, place, frame):
@@ -287,11 +312,11 @@ def clear_of(rings, place, frame):
     return max(spots, key=lambda spot: min((dist(spot, ring) for ring in rings), default=0))
 
 
-def leader(x, y, to_x, to_y):
+def leader(x, y, to_x, to_y, **attributes):
     """A thin line to a ring."""
     part = 1 - RING / dist((x, y), (to_x, to_y))
     ends = x, y, x + part * (to_x - x), y + part * (to_y - y)
-    return line(*ends, role="leader", stroke=MEETS, stroke_width=0.9)
+    return line(*ends, role="leader", stroke=MEETS, stroke_width=0.9, **attributes)
 
 
 def around(wide, gaps):
@@ -313,11 +338,11 @@ def legend(names, styles, frame):
     row = min(26, (frame.box.bottom - frame.box.top) / max(len(names), 1))
     size = min(13, 0.8 * row)
     for name, numbers in names.items():
-        colour, dash = styles[numbers[0]]
-        yield line(left, at - 4, left + 24, at - 4, stroke=colour, stroke_width=2.6, stroke_dasharray=dash)
-        yield text(left + 32, at, runs(numbers), fill=colour, font_weight="bold", font_size=px(size))
+        (colour, dash), mine = styles[numbers[0]], dict(data_pieces=" ".join(map(str, numbers)))
+        yield line(left, at - 4, left + 24, at - 4, stroke=colour, stroke_width=2.6, stroke_dasharray=dash, **mine)
+        yield text(left + 32, at, runs(numbers), fill=colour, font_weight="bold", font_size=px(size), **mine)
         short = name if len(name) <= LONGEST_NAME else name[: LONGEST_NAME - 1] + "…"
-        yield text(left + 80, at, short, font_size=px(size))
+        yield text(left + 80, at, short, font_size=px(size), **mine)
         at += row
 
 

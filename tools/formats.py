@@ -8,13 +8,18 @@ HEADER = Path(__file__).resolve().parents[1] / "crates/chart_c/include/mirtalugh
 
 
 def size(name):
-    """A size of the library's header."""
-    return int(re.search(rf"^#define MIRTALUGHE_{name} (\d+)", HEADER.read_text(), re.M)[1])
+    """A size of the library's header, worked out."""
+    told = re.search(rf"^#define MIRTALUGHE_{name} ([\w+* ()]+)", HEADER.read_text(), re.M)[1]
+    return eval(re.sub(r"MIRTALUGHE_(\w+)", lambda other: str(size(other[1])), told))
 
 
 MOST_PIECES = size("MOST_PIECES")
 LIMIT = size("LIMIT")
 MOST_GROUPS = 3
+# Bytes of the longest chart file; one more of a longer one decides what is made of all of it.
+LONGEST_FILE = size("LONGEST_FILE")
+# Bytes of the longest text that is read. The longest listing of 200 pieces has fewer.
+MOST_TEXT = 1 << 20
 NUMBERS = ("kind", "x1", "y1", "x2", "y2")
 
 # The sentences of docs/CHART.md.
@@ -135,8 +140,16 @@ def whole(word):
     return int(word) if re.fullmatch("-?[0-9]{1,9}", word) else None
 
 
+def shortly(words):
+    """What a fault shows of a line: its beginning, in quotation marks."""
+    told = " ".join(words)
+    return repr(told if len(told) <= 40 else f"{told[:40]}..")
+
+
 def lines_of(data):
     """The lines of a text, which must be UTF-8 without control characters, so that a picture can show what it says."""
+    if len(data) > MOST_TEXT:
+        raise Wrong(f"byte {MOST_TEXT}: a text has at most so many")
     try:
         lines = data.decode("utf-8").removeprefix("\ufeff").removesuffix("\n").split("\n")
     except UnicodeDecodeError as e:
@@ -268,7 +281,7 @@ def number_after(word, lines, at):
     """The number of a line that is a word and a number."""
     line = lines[at] if at < len(lines) else []
     if len(line) != 2 or line[0] != word:
-        raise Wrong(f"line {at + 1}: `{word}` and a number are due, not {' '.join(line)!r}")
+        raise Wrong(f"line {at + 1}: `{word}` and a number are due, not {shortly(line)}")
     return number_of(line, 1, f"line {at + 1}")
 
 
@@ -287,7 +300,7 @@ def meeting_at(lines, at, count):
         raise Wrong(f"{where}: two units of the speed and two of the frequency are due after `at`: {older}")
     if form is None or len(line) != 8 or line[0] != "pair":
         due = "`pair a b at xlow xhigh ylow yhigh` or `pair a b along x1 y1 x2 y2`"
-        raise Wrong(f"{where}: {due} is due, not {' '.join(line)!r}")
+        raise Wrong(f"{where}: {due} is due, not {shortly(line)}")
     pair = number_of(line, 1, where), number_of(line, 2, where)
     if not 0 <= pair[0] < pair[1] < count:
         raise Wrong(f"{where}: {pair[0]} {pair[1]} is no pair of pieces below {count}, lesser first")

@@ -18,9 +18,16 @@ def bytes_of_text(data):
             continue
         numbers = [formats.whole(word) for word in words]
         if len(numbers) != 2 or not all(number in range(256) for number in numbers):
-            raise formats.Wrong(f"line {at}: two numbers from 0 to 255 are due, not {' '.join(words)!r}")
+            raise formats.Wrong(f"line {at}: two numbers from 0 to 255 are due, not {formats.shortly(words)}")
         found += bytes(numbers)
     return bytes(found)
+
+
+def bytes_of_pairs(data):
+    """A list of bytes as it is. Whoever has a longer one has told the same pair many times."""
+    if len(data) > formats.MOST_TEXT:
+        raise formats.Wrong(f"byte {formats.MOST_TEXT}: a list has at most so many here")
+    return data
 
 
 def sentence(chart, pairs, answer):

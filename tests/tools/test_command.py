@@ -1,4 +1,5 @@
 """The tool as a command."""
+import os
 import subprocess
 import sys
 import tempfile
@@ -8,10 +9,10 @@ from pathlib import Path
 ROOT = Path(__file__).parents[2]
 
 
-def run(*words, given=b""):
-    """Exit status, output and what is said."""
-    command = [sys.executable, "-B", ROOT / "tools/chart.py", *words]
-    done = subprocess.run(command, input=given, capture_output=True, timeout=60)
+def run(*words, given=b"", program=""):
+    """Exit status, output and what is said; with another program than the proved one, where it is named."""
+    command, named = [sys.executable, "-B", ROOT / "tools/chart.py", *words], {"MIRTALUGHE_CHART": str(program)}
+    done = subprocess.run(command, input=given, capture_output=True, timeout=60, env={**os.environ, **named})
     return done.returncode, done.stdout, done.stderr.decode()
 
 
@@ -49,10 +50,16 @@ class Command(unittest.TestCase):
         self.assertIn("no/such/file", said)
 
     def test_usage(self):
-        for words in ((), ("code",), ("draw",), ("encode", "a", "b", "c")):
+        for words in ((), ("code",), ("draw",), ("encode", "a", "b", "c"), ("page", "a.html"), ("page", "a", "b")):
             status, _, said = run(*words)
             self.assertEqual(status, 2)
             self.assertIn("chart.py encode", said)
+
+    def test_help(self):
+        for word in ("help", "--help", "-h"):
+            status, told, said = run(word)
+            self.assertEqual((status, said), (0, ""))
+            self.assertIn(b"chart.py page TEXT.. PAGE", told)
 
     def test_draw(self):
         with tempfile.TemporaryDirectory() as folder:
