@@ -3,7 +3,8 @@
 # make install      puts the header, the library, its pkg-config file and the program under PREFIX (and DESTDIR before it)
 # make uninstall    takes them away again
 # make FAN.html     the page of FAN.chart.txt, with everything that it needs
-# make examples     the example's chart file, picture and page, from its text and its listing, which tests/recorded makes
+# make examples     the examples' chart files and pictures and the fan's page, from their texts and their listings, which
+#                   tests/recorded makes
 
 PREFIX = /usr/local
 DESTDIR =
@@ -12,6 +13,7 @@ version = $(shell sed -n 's/^\#define MIRTALUGHE_VERSION "\(.*\)"/\1/p' $(header
 to = $(DESTDIR)$(PREFIX)
 installed = include/mirtalughe.h lib/libmirtalughe.a lib/pkgconfig/mirtalughe.pc bin/chart
 fan = examples/booster_fan
+line = examples/folded_line
 sources = crates.txt $(shell find crates -name '*.rt' -o -name '*.antt')
 program = target/bin/chart
 library = target/staticlib/libchart_c.a
@@ -47,5 +49,7 @@ examples: $(program)
 	tools/chart.py encode $(fan).chart.txt $(fan).chart
 	tools/chart.py draw $(fan).chart.txt $(fan).listing.txt $(fan).svg
 	tools/chart.py page $(fan).chart.txt $(fan).html
+	tools/chart.py encode $(line).chart.txt $(line).chart
+	tools/chart.py draw $(line).chart.txt $(line).listing.txt $(line).svg
 
 .PHONY: all test install uninstall examples

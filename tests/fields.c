@@ -357,6 +357,46 @@ static void answers_of_check(void) {
     }
 }
 
+/* Four times x folded at 12, up to 5: one joint, at 3. */
+static void answers_of_fold(void) {
+    static int32_t line[MIRTALUGHE_FOLD_ROOM + MIRTALUGHE_PIECE_NUMBERS];
+    static const int32_t numbers[] = {1, 0, 0, 3, 12, 3, 3, 12, 5, 4};
+    for (size_t i = 0; i < LENGTH(line); i++) line[i] = KEPT;
+    mirtalughe_answer drawn = mirtalughe_fold(4, 12, 5, line, 11);
+    CHECK(drawn.number == MIRTALUGHE_DONE);
+    CHECK(drawn.place == 0);
+    CHECK(drawn.count == 2);
+    CHECK(memcmp(line, numbers, sizeof numbers) == 0);
+    CHECK(line[LENGTH(numbers)] == KEPT);
+
+    static const struct {
+        uint32_t m, h, s;
+        size_t lent;
+        mirtalughe_refusal number;
+    } wrongs[] = {
+        {0, 1, 1, 5, MIRTALUGHE_ARGUMENT},
+        {MIRTALUGHE_MOST_ORDER + 1, 1, 1, 5, MIRTALUGHE_ARGUMENT},
+        {1, MIRTALUGHE_LIMIT + 1, 1, 5, MIRTALUGHE_ARGUMENT},
+        {1, 1, UINT32_MAX, 5, MIRTALUGHE_ARGUMENT},
+        {2, 401, 201, 5, MIRTALUGHE_UNEVEN},
+        {2, 1, 201, 0, MIRTALUGHE_UNEVEN},
+        {1, 1, MIRTALUGHE_MOST_FOLDED + 1, 0, MIRTALUGHE_TOO_MANY},
+        {4, 12, 5, 9, MIRTALUGHE_ROOM},
+    };
+    for (size_t i = 0; i < LENGTH(wrongs); i++) {
+        mirtalughe_answer refused = mirtalughe_fold(wrongs[i].m, wrongs[i].h, wrongs[i].s, line, wrongs[i].lent);
+        CHECK(refused.number == wrongs[i].number);
+        CHECK(refused.place == 0);
+        CHECK(refused.count == 0);
+    }
+    CHECK(memcmp(line, numbers, sizeof numbers) == 0);
+    CHECK(mirtalughe_fold(1, 1, MIRTALUGHE_MOST_FOLDED, line, MIRTALUGHE_FOLD_ROOM).count == MIRTALUGHE_MOST_FOLDED);
+    CHECK(line[MIRTALUGHE_FOLD_ROOM] == KEPT);
+    /* m does not divide H, but the line does not fold; and -1 is no argument */
+    CHECK(mirtalughe_fold(2, 9, 4, line, 5).count == 1);
+    CHECK(mirtalughe_fold((uint32_t)-1, 1, 1, line, 5).number == MIRTALUGHE_ARGUMENT);
+}
+
 static void sizes(void) {
     static const uint8_t no_pieces[] = {0};
     CHECK(mirtalughe_read(no_pieces, 1, list, MIRTALUGHE_LIST_ROOM).number == MIRTALUGHE_DONE);
@@ -389,6 +429,7 @@ static void version(void) {
 static void null(void) {
     CHECK(mirtalughe_read(NULL, 0, list, MIRTALUGHE_LIST_ROOM).number == MIRTALUGHE_FILE_ENDS);
     CHECK(mirtalughe_read(NULL, 0, NULL, 0).number == MIRTALUGHE_ROOM);
+    CHECK(mirtalughe_fold(1, 1, 1, NULL, 0).number == MIRTALUGHE_ROOM);
     CHECK(mirtalughe_meeting(NULL, 0).number == MIRTALUGHE_LIST_LENGTH);
     CHECK(mirtalughe_place(NULL, 0).number == MIRTALUGHE_LIST_LENGTH);
     CHECK(mirtalughe_region(NULL, 0, 0, 0).number == MIRTALUGHE_OUTLINE);
@@ -410,6 +451,7 @@ int main(void) {
     answers_of_all_pairs();
     answers_of_sweep();
     answers_of_check();
+    answers_of_fold();
     numbers();
     sizes();
     version();

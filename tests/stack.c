@@ -56,6 +56,11 @@ static void check(void) {
     wrong |= mirtalughe_check(list, MIRTALUGHE_LIST_ROOM, pairs, sizeof pairs).says != MIRTALUGHE_ACCEPTED;
 }
 
+static void fold(void) {
+    static int32_t line[MIRTALUGHE_FOLD_ROOM];
+    wrong |= mirtalughe_fold(1, 1, MIRTALUGHE_MOST_FOLDED, line, MIRTALUGHE_FOLD_ROOM).count != MIRTALUGHE_MOST_FOLDED;
+}
+
 static size_t taken(void (*call)(void)) {
     memset(stack, PAINT, ROOM);
     getcontext(&guest);
@@ -96,6 +101,7 @@ int main(void) {
         {"mirtalughe_meeting", meeting}, {"mirtalughe_place", place},   {"mirtalughe_all_pairs", all_pairs},
         {"mirtalughe_sweep", sweep},     {"mirtalughe_write", write},
         {"mirtalughe_full_sweep", full_sweep}, {"mirtalughe_check", check},
+        {"mirtalughe_fold", fold},
         {"mirtalughe_region", region},   {"mirtalughe_half_line", half_line},
     };
     largest();

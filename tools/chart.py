@@ -8,6 +8,8 @@
   chart.py draw TEXT [LISTING [PICTURE]]        a readable chart and what the program `chart` lists of it become an SVG
   chart.py encode [TEXT [FILE]]                 a readable chart becomes a chart file
   chart.py decode [FILE [TEXT]]                 and back
+  chart.py fold m H S [NAME]                    the pieces of m times x folded at 0 and H, from x = 0 to S, as lines of
+                                                a readable chart, each with the name
   chart.py pairs [TEXT [FILE]]                  a supplier's list, two numbers a line, becomes bytes, two a pair
   chart.py tell TEXT PAIRS [ANSWER]             what examples/check.c answers of a readable chart's file and such bytes,
                                                 in a sentence with the pieces' names
@@ -22,6 +24,7 @@ where these words were not understood."""
 import sys
 
 import drawing
+import folding
 import formats
 import meetings
 import page
@@ -49,6 +52,8 @@ def main(words):
     if command == "draw" and 1 <= len(names) <= 3:
         source, listing, made = (names + ["-", "-"])[:3]
         return write(made, drawn(source, listing))
+    if command == "fold" and 3 <= len(names) <= 4:
+        return write("-", folding.text(*names))
     if command == "pairs" and len(names) <= 2:
         given, made = (names + ["-", "-"])[:2]
         return write(made, read(given, supplied.bytes_of_text))

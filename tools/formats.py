@@ -33,6 +33,9 @@ REFUSALS = {
     7: "bytes after the last piece",
     8: "lent room too small",
     9: "a list's length is no multiple of five or, in a pair call, is not ten",
+    12: "an argument out of range",
+    13: "mS is above H and m doesn't divide H",
+    14: "more than 200 pieces",
     15: "an odd count of numbers or a corner count outside 3 to 64",
     16: "an odd number of bytes, two a pair",
 }

@@ -103,6 +103,18 @@ naive/specs/AllPairs:pairsOf `ListsExactly` of naive
 """,
     ),
     (
+        "a folded line",
+        "folded_line/specs/Demand:FoldsToNearest,RefusesExactly,RefusesWhole,DoneExactly,HoldsFolded,HoldsNothingElse,"
+        "HoldsBetween,RunsLeftToRight,AcceptedByAll",
+        """
+charts/specs/Chart:verdictOf RefusesExactly
+folded_line/specs/Folded:folded FoldsToNearest
+folded_line/specs/Drawing:drawingOf RefusesExactly
+folded_line/specs/Drawing:drawnBy what is read
+folded_line/specs/Line:line RunsLeftToRight
+""",
+    ),
+    (
         "3",
         "promises/specs/Sweep:ListsExactly,ListsInOrder,VisitsInOrder,ListsAllPairs,FullSweepBounded,FirstCommon,Ported "
         "promises/specs/Chart:NoneUpright",

@@ -1,8 +1,10 @@
 """The examples: the fan's file and picture are what the tool makes of its text, and the README shows the C program."""
+import re
 import unittest
 from pathlib import Path
 
 import drawing
+import folding
 from formats import chart_of_text, file_of_chart, listing_of_text
 
 ROOT = Path(__file__).parents[2]
@@ -29,6 +31,27 @@ class BoosterFan(unittest.TestCase):
             before, after = pieces[i].ends()[1], pieces[i + 1].ends()[0]
             self.assertEqual((*before[:2], not before[2]), after)
             self.assertNotIn((i, i + 1), listed)
+
+
+class FoldedLine(unittest.TestCase):
+    def setUp(self):
+        self.chart = chart_of_text((EXAMPLES / "folded_line.chart.txt").read_bytes())
+        self.listing = listing_of_text((EXAMPLES / "folded_line.listing.txt").read_bytes())
+
+    def test_drawn_by_the_tool(self):
+        """The text's pieces are those of the two commands that it names."""
+        commands = re.findall(r'tools/chart.py fold (\d+) (\d+) (\d+) "(.*)"', (EXAMPLES / "folded_line.chart.txt").read_text())
+        drawn = [folding.pieces(int(m), int(h), int(s), name) for m, h, s, name in commands]
+        self.assertEqual(self.chart.pieces, [piece for line in drawn for piece in line])
+        self.assertEqual([len(line) for line in drawn], [6, 1])
+
+    def test_meets_the_bearing_tone(self):
+        """Each piece of the line meets the tone, and no other piece of its line."""
+        self.assertEqual([m.pair for m in self.listing.meetings], [(i, 6) for i in range(6)])
+
+    def test_file_and_picture(self):
+        self.assertEqual(file_of_chart(self.chart), (EXAMPLES / "folded_line.chart").read_bytes())
+        self.assertEqual(drawing.picture(self.chart, self.listing), (EXAMPLES / "folded_line.svg").read_bytes())
 
 
 class First(unittest.TestCase):

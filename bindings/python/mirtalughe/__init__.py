@@ -29,6 +29,7 @@ MOST_PIECES: int = header.size("MOST_PIECES")
 LIMIT: int = header.size("LIMIT")
 PIECE_NUMBERS: int = header.size("PIECE_NUMBERS")
 LIST_ROOM: int = header.size("LIST_ROOM")
+FOLD_ROOM: int = header.size("FOLD_ROOM")
 LONGEST_FILE: int = header.size("LONGEST_FILE")
 MOST_BUDGET: int = 2**32 - 1
 
@@ -240,6 +241,12 @@ def check(pieces: Pieces, pairs: Pairs) -> Accepted | FaultyEntry | Missing:
     if said.says == due["FAULT"]:
         return FaultyEntry(said.first, EntryFault(said.second))
     return Missing((said.first, said.second)) if said.says == due["MISSING"] else Accepted()
+
+
+def fold(order: int, half_rate: int, top_speed: int) -> list[Piece]:
+    """The pieces of order times x, folded at 0 and at half the sampling rate, from x = 0 to the top speed, all in one unit."""
+    numbers = (ctypes.c_int32 * FOLD_ROOM)()
+    return pieces_in(numbers, call("fold", order, half_rate, top_speed, numbers).count)
 
 
 def region(outline: Iterable[Whole], peak: Whole) -> Region:

@@ -73,6 +73,12 @@ class Calls(unittest.TestCase):
         due = [(a, b) for a in range(MOST_PIECES) for b in range(a)]
         self.assertEqual(mirtalughe.all_pairs(most), due)
 
+    def test_folded_line(self):
+        """Two thirds of a fold, and a top speed that is a joint: the last piece alone includes both ends."""
+        self.assertEqual(mirtalughe.fold(1, 3, 5), [(1, 0, 0, 3, 3), (3, 3, 3, 5, 1)])
+        self.assertEqual(mirtalughe.fold(2, 4, 4), [(1, 0, 0, 2, 4), (3, 2, 4, 4, 0)])
+        self.assertEqual(len(mirtalughe.fold(1, 1, 200)), 200)
+
     def test_upright_pieces(self):
         gap = [(3, 0, 0, 0, 10), (3, -5, 3, 5, 3), (3, -5, 6, 5, 6)]
         ported, full = mirtalughe.sweep(gap), mirtalughe.full_sweep(gap)

@@ -52,6 +52,11 @@ class Refusals(unittest.TestCase):
             self.refused(3, 0, MANY, ask, [SOUND] * (MOST_PIECES + 1))
         self.refused(16, 0, "an odd number of bytes, two a pair", mirtalughe.check, [SOUND], b"\0")
 
+    def test_folded_lines(self):
+        self.refused(12, 0, "an argument out of range", mirtalughe.fold, 61, 1, 1)
+        self.refused(13, 0, "mS is above H and m doesn't divide H", mirtalughe.fold, 2, 3, 2)
+        self.refused(14, 0, "more than 200 pieces", mirtalughe.fold, 1, 1, 201)
+
     def test_regions_and_half_lines(self):
         corners = [(0, 0), (9, 0), (9, 9)]
         told = "an odd count of numbers or a corner count outside 3 to 64"

@@ -21,6 +21,7 @@ unsafe extern "C" {
   ) -> Swept;
   pub fn mirtalughe_sweep(list: *const i32, length: usize, budget: u32, pairs: *mut u8, lent: usize)
   -> Swept;
+  pub fn mirtalughe_fold(m: u32, h: u32, s: u32, list: *mut i32, lent: usize) -> Answer;
   pub fn mirtalughe_check(list: *const i32, length: usize, pairs: *const u8, size: usize) -> Checked;
   pub fn mirtalughe_region(outline: *const i32, length: usize, x: i32, y: i32) -> Located;
   pub safe fn mirtalughe_half_line(

@@ -45,6 +45,12 @@ pub const PIECE_NUMBERS: usize = number(env!("MIRTALUGHE_PIECE_NUMBERS"));
 /// How many numbers are lent to [`read`] at least.
 pub const LIST_ROOM: usize = PIECE_NUMBERS * MOST_PIECES;
 
+/// The most pieces of a folded line.
+pub const MOST_FOLDED: usize = number(env!("MIRTALUGHE_MOST_FOLDED"));
+
+/// So many numbers lent to [`fold`] are always enough.
+pub const FOLD_ROOM: usize = PIECE_NUMBERS * MOST_FOLDED;
+
 /// The bytes of the longest chart file. At least as many are lent to [`write`].
 pub const LONGEST_FILE: usize = 1 + 13 * MOST_PIECES;
 
@@ -192,6 +198,16 @@ pub fn write<'a>(list: &[i32], lent: &'a mut [u8]) -> Result<&'a [u8], Refusal> 
   let answer = unsafe { calls::mirtalughe_write(list.as_ptr(), list.len(), lent.as_mut_ptr(), lent.len()) };
   let count = answer.checked(Given::List)?;
   Ok(&lent[..count])
+}
+
+/// Draws m times x, folded at 0 and h, from x = 0 to s, into a lent list and returns its pieces, from left to right: at every
+/// x one of them holds the folded value. At least five numbers a piece are to be lent, [`FOLD_ROOM`] for any line; those past
+/// the last piece keep their values.
+pub fn fold(m: u32, h: u32, s: u32, lent: &mut [i32]) -> Result<&[Piece], Refusal> {
+  // SAFETY: the pointer is good for the length, and the lent list is borrowed alone.
+  let answer = unsafe { calls::mirtalughe_fold(m, h, s, lent.as_mut_ptr(), lent.len()) };
+  let count = answer.checked(Given::Line)?;
+  Ok(&lent.as_chunks().0[..count])
 }
 
 /// How the two pieces of ten numbers meet, the first one asking.

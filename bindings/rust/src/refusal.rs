@@ -16,12 +16,15 @@ pub enum Fault {
   ExtraBytes = 7,
   Room = 8,
   ListLength = 9,
+  Argument = 12,
+  Uneven = 13,
+  TooMany = 14,
   Outline = 15,
   OddBytes = 16,
 }
 
 impl Fault {
-  pub const ALL: [Fault; 11] = [
+  pub const ALL: [Fault; 14] = [
     Fault::FileEnds,
     Fault::Groups,
     Fault::Count,
@@ -31,6 +34,9 @@ impl Fault {
     Fault::ExtraBytes,
     Fault::Room,
     Fault::ListLength,
+    Fault::Argument,
+    Fault::Uneven,
+    Fault::TooMany,
     Fault::Outline,
     Fault::OddBytes,
   ];
@@ -50,6 +56,9 @@ impl Fault {
       Fault::ExtraBytes => "bytes after the last piece",
       Fault::Room => "lent room too small",
       Fault::ListLength => "a list's length is no multiple of five or, in a pair call, is not ten",
+      Fault::Argument => "an argument out of range",
+      Fault::Uneven => "mS is above H and m doesn't divide H",
+      Fault::TooMany => "more than 200 pieces",
       Fault::Outline => "an odd count of numbers or a corner count outside 3 to 64",
       Fault::OddBytes => "an odd number of bytes, two a pair",
     }
@@ -65,6 +74,8 @@ pub enum Given {
   Outline,
   /// A half-line and a piece.
   HalfLine,
+  /// The three numbers of a folded line.
+  Line,
 }
 
 /// A call that is refused: why, and where. In a file the place is the byte at which the number starts, the kind's for
@@ -89,7 +100,7 @@ impl fmt::Display for Refusal {
       (Given::List, _) => Ok(()),
       (Given::Outline, Fault::Coordinate) if self.place == 0 => write!(f, ", at corner 0 or the peak"),
       (Given::Outline, Fault::Coordinate | Fault::NoLength) => write!(f, ", at corner {}", self.place),
-      (Given::Outline | Given::HalfLine, _) => Ok(()),
+      (Given::Outline | Given::HalfLine | Given::Line, _) => Ok(()),
     }
   }
 }

@@ -248,3 +248,24 @@ fn half_lines() {
   assert_eq!(refused([3, 2, -1, 2, 1], [40000, 0]), (Fault::Coordinate, 0, Given::HalfLine));
   assert_eq!(refused([3, 2, -1, 2, 1], [0, 0]), (Fault::NoLength, 0, Given::HalfLine));
 }
+
+/// Four times x, folded at 12: one joint, at 3.
+#[test]
+fn folded_lines() {
+  let mut lent = [7; FOLD_ROOM + 1];
+  assert_eq!(fold(4, 12, 5, &mut lent), Ok(&[[1, 0, 0, 3, 12], [3, 3, 12, 5, 4]][..]));
+  assert_eq!(lent[10..], [7; FOLD_ROOM - 9]);
+  assert_eq!(fold(1, 1, 200, &mut lent).unwrap().len(), MOST_FOLDED);
+  let wrong = [
+    (0, 12, 5, 10, Fault::Argument),
+    (1, 1, 32_768, 10, Fault::Argument),
+    (2, 1, 201, 10, Fault::Uneven),
+    (1, 1, 201, 10, Fault::TooMany),
+    (4, 12, 5, 9, Fault::Room),
+  ];
+  for (m, h, s, room, fault) in wrong {
+    let refused = fold(m, h, s, &mut lent[..room]).unwrap_err();
+    assert_eq!((refused.fault, refused.place), (fault, 0), "{m} {h} {s}");
+  }
+  assert_eq!(fold(61, 1, 1, &mut lent).unwrap_err().to_string(), "refused 12: an argument out of range");
+}

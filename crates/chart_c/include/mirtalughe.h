@@ -30,9 +30,9 @@ extern "C" {
 
 /* ---- version: of what this header says. MAJOR grows where a program that was right may have to change. */
 #define MIRTALUGHE_VERSION_MAJOR 0
-#define MIRTALUGHE_VERSION_MINOR 9
+#define MIRTALUGHE_VERSION_MINOR 10
 #define MIRTALUGHE_VERSION_PATCH 0
-#define MIRTALUGHE_VERSION "0.9.0"
+#define MIRTALUGHE_VERSION "0.10.0"
 
 /* ---- sizes */
 #define MIRTALUGHE_MOST_PIECES 64 /* of a chart */
@@ -42,6 +42,11 @@ extern "C" {
 
 /* Numbers to lend to mirtalughe_read, whatever the file: those of the largest chart. */
 #define MIRTALUGHE_LIST_ROOM (MIRTALUGHE_PIECE_NUMBERS * MIRTALUGHE_MOST_PIECES)
+
+/* The most pieces of a folded line, and the numbers to lend to mirtalughe_fold that are enough for any. */
+#define MIRTALUGHE_MOST_FOLDED 200
+#define MIRTALUGHE_FOLD_ROOM (MIRTALUGHE_PIECE_NUMBERS * MIRTALUGHE_MOST_FOLDED)
+#define MIRTALUGHE_MOST_ORDER 60 /* of a folded line */
 
 /* Bytes of the longest chart file, to lend to mirtalughe_write whatever the chart: the count, and of each piece its kind and four coordinates of three bytes. */
 #define MIRTALUGHE_LONGEST_FILE (1 + 13 * MIRTALUGHE_MOST_PIECES)
@@ -78,6 +83,12 @@ typedef enum {
     MIRTALUGHE_ROOM = 8,
     /* a list's length is no multiple of five or, in a pair call, is not ten. Place in a list: 0. */
     MIRTALUGHE_LIST_LENGTH = 9,
+    /* an argument out of range. Place in a list: 0. */
+    MIRTALUGHE_ARGUMENT = 12,
+    /* mS is above H and m doesn't divide H. Place in a list: 0. */
+    MIRTALUGHE_UNEVEN = 13,
+    /* more than 200 pieces. Place in a list: 0. */
+    MIRTALUGHE_TOO_MANY = 14,
     /* an odd count of numbers or a corner count outside 3 to 64. Place in a list: 0. */
     MIRTALUGHE_OUTLINE = 15,
     /* an odd number of bytes, two a pair. Place in a list: 0. */
@@ -86,7 +97,7 @@ typedef enum {
 
 /* ---- answers. `number` is one of mirtalughe_refusal, and `place` a byte of the file or the number of a piece. */
 
-/* `count` pieces read, bytes written, or pairs listed. */
+/* `count` pieces read or drawn, bytes written, or pairs listed. */
 typedef struct {
     uint8_t number;
     size_t place;
@@ -204,6 +215,15 @@ mirtalughe_answer mirtalughe_read(const uint8_t *file, size_t size, int32_t *lis
 /* Writes a list's chart file into lent bytes and returns the count of them. `lent` is at least MIRTALUGHE_LONGEST_FILE,
    whatever the chart. Bytes past the file keep their values. Reading what was written gives the list again. */
 mirtalughe_answer mirtalughe_write(const int32_t *list, size_t length, uint8_t *file, size_t lent);
+
+/* Draws m times x, folded at 0 and h, from x = 0 to s, into a lent list, and returns the count of pieces: m from 1 to
+   MIRTALUGHE_MOST_ORDER, h, half the sampling rate, and s, the top speed, from 1 to MIRTALUGHE_LIMIT, all in one unit. A
+   piece runs from joint to joint, from left to right; it includes its first end and excludes its last, and the final one
+   includes both. So at every x from 0 to s one piece holds the folded value. Refusals: MIRTALUGHE_ARGUMENT,
+   MIRTALUGHE_UNEVEN where a joint jh/m would not be whole, MIRTALUGHE_TOO_MANY, MIRTALUGHE_ROOM where `lent` is under
+   five numbers a piece; MIRTALUGHE_FOLD_ROOM is always enough. Numbers past the last piece keep their values. A list of
+   more than MIRTALUGHE_MOST_PIECES pieces is no chart: the other calls refuse it with MIRTALUGHE_COUNT. */
+mirtalughe_answer mirtalughe_fold(uint32_t m, uint32_t h, uint32_t s, int32_t *list, size_t lent);
 
 /* How the two pieces of a list meet, the first one asking; `length` is MIRTALUGHE_TWO_PIECES. */
 mirtalughe_met mirtalughe_meeting(const int32_t *list, size_t length);

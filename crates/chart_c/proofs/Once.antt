@@ -6,6 +6,7 @@ use Rattle.chart_c.proofs.mirtalughe_orient.Reads as orient
 use Rattle.chart_c.proofs.mirtalughe_compare_points.Reads as compare-points
 use Rattle.chart_c.proofs.mirtalughe_read.Reads as read
 use Rattle.chart_c.proofs.mirtalughe_write.Reads as write
+use Rattle.chart_c.proofs.mirtalughe_fold.Reads as fold
 use Rattle.chart_c.proofs.mirtalughe_meeting.Reads as meeting
 use Rattle.chart_c.proofs.mirtalughe_place.Reads as place
 use Rattle.chart_c.proofs.mirtalughe_all_pairs.Reads as all-pairs
@@ -26,6 +27,9 @@ read-once κ a x y s t h k = (h .answer ∙ sym (k .answer), h .content ∙ sym 
 
 pub write-once : OneOutcome write.Post (λ κ s. now (s .1 .0))
 write-once κ a x y s t h k = (h .answer ∙ sym (k .answer), h .content ∙ sym (k .content))
+
+pub fold-once : OneOutcome fold.Post (λ κ s. now (s .1 .1 .1 .0))
+fold-once κ a x y s t h k = (h .answer ∙ sym (k .answer), h .content ∙ sym (k .content))
 
 pub meeting-once : OneResult meeting.Post
 meeting-once κ a x y s t h k = h ∙ sym k

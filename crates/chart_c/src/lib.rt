@@ -12,6 +12,7 @@ ghost use Rattle.bentley_ottmann.specs.Swept.{sweepOf};
 ghost use Rattle.bentley_ottmann.specs.Swept.{lentAfter as sweptAfter};
 ghost use Rattle.full_sweep.specs.Swept.{sweepOf as fullSweepOf, lentAfter as fullAfter};
 ghost use Rattle.supplied.specs.Checking.{checkedOf};
+ghost use Rattle.folded_line.specs.Drawing.{Draws};
 ghost use Rattle.chart_c.specs.Sweeps.{sweptAs, sweptFields};
 ghost use Rattle.chart_c.specs.Checks.{checkedAs};
 ghost use Rattle.chart_c.specs.Numbers.{turnNumber, orderNumber, pointOf};
@@ -163,6 +164,14 @@ pub extern "C" fn mirtalughe_write(list: &[i32], file: &mut [u8]) -> Answer
     ensures { λ r. ⌜ Writes (now (list .entry)) (now (file .entry)) r (now (file .exit)) ⌝ }
 {
     chart_writer::write(list, file)
+}
+
+// Draws m times x folded at 0 and h, from x = 0 to s, into a lent list.
+#[no_mangle]
+pub extern "C" fn mirtalughe_fold(m: u32, h: u32, s: u32, list: &mut [i32]) -> Answer
+    ensures { λ r. ⌜ Draws m h s (now (list .entry)) r (now (list .exit)) ⌝ }
+{
+    folded_line::draw(m as usize, h as usize, s as usize, list)
 }
 
 fn end_of(e: EndPoint) -> End

@@ -13,6 +13,7 @@ unsafe extern "C" {
   fn mirtalughe_place(list: *const i32, length: usize) -> Placed;
   fn mirtalughe_read(file: *const u8, size: usize, list: *mut i32, lent: usize) -> Answer;
   fn mirtalughe_write(list: *const i32, length: usize, file: *mut u8, lent: usize) -> Answer;
+  fn mirtalughe_fold(m: u32, h: u32, s: u32, list: *mut i32, lent: usize) -> Answer;
   fn mirtalughe_all_pairs(list: *const i32, length: usize, pairs: *mut u8, lent: usize) -> Answer;
   fn mirtalughe_full_sweep(
     list: *const i32,
@@ -204,6 +205,10 @@ pub fn read(file: &[u8], list: &mut [i32]) -> Answer {
 
 pub fn write(list: &[i32], file: &mut [u8]) -> Answer {
   unsafe { mirtalughe_write(list.as_ptr(), list.len(), file.as_mut_ptr(), file.len()) }
+}
+
+pub fn fold(m: u32, h: u32, s: u32, list: &mut [i32]) -> Answer {
+  unsafe { mirtalughe_fold(m, h, s, list.as_mut_ptr(), list.len()) }
 }
 
 pub fn all_pairs(list: &[i32], pairs: &mut [u8]) -> Answer {

@@ -16,6 +16,7 @@ mod charts;
 mod file;
 mod files;
 mod full;
+mod folded;
 mod half_line;
 mod kept;
 mod lent;
@@ -104,6 +105,17 @@ fn main() -> ExitCode {
       "compare: {} {} charts, {seconds:.1} s",
       family.count, family.name
     );
+  }
+  let start = Instant::now();
+  match folded::compare() {
+    Ok((count, drawn)) => {
+      let seconds = start.elapsed().as_secs_f32();
+      println!("compare: {count} folded lines, {drawn} of them drawn, {seconds:.1} s");
+    }
+    Err(told) => {
+      println!("compare: a folded line differs in {told}");
+      return ExitCode::FAILURE;
+    }
   }
   let start = Instant::now();
   match files::compare(seed, files) {
