@@ -397,6 +397,65 @@ static void answers_of_fold(void) {
     CHECK(mirtalughe_fold((uint32_t)-1, 1, 1, line, 5).number == MIRTALUGHE_ARGUMENT);
 }
 
+static int32_t chart[MIRTALUGHE_OPEN_NUMBERS + 1];
+
+/* The numbers of the chart are all -1, but five at a place, and what stands past them is kept. */
+static bool stands(size_t place, const int32_t *piece) {
+    for (size_t i = 0; i < MIRTALUGHE_OPEN_NUMBERS; i++) {
+        bool there = piece != NULL && i / MIRTALUGHE_PIECE_NUMBERS == place;
+        if (chart[i] != (there ? piece[i % MIRTALUGHE_PIECE_NUMBERS] : -1)) return false;
+    }
+    return chart[MIRTALUGHE_OPEN_NUMBERS] == KEPT;
+}
+
+static void changed(mirtalughe_changed told, uint8_t number, size_t piece) {
+    CHECK(told.number == number);
+    CHECK(told.place == 0);
+    CHECK(told.piece == piece);
+}
+
+static void answers_of_open(void) {
+    static const int32_t first[] = {3, 0, 0, 3, 6}, second[] = {2, 0, 5, 5, 0};
+    for (size_t i = 0; i < LENGTH(chart); i++) chart[i] = KEPT;
+    mirtalughe_answer short_of = mirtalughe_open_empty(chart, MIRTALUGHE_OPEN_NUMBERS - 1);
+    CHECK(short_of.number == MIRTALUGHE_ROOM && short_of.place == 0 && short_of.count == 0 && chart[0] == KEPT);
+    mirtalughe_answer emptied = mirtalughe_open_empty(chart, LENGTH(chart));
+    CHECK(emptied.number == MIRTALUGHE_DONE && emptied.place == 0 && emptied.count == 0);
+    CHECK(stands(0, NULL));
+    size_t lent = LENGTH(chart);
+    changed(mirtalughe_open_add(chart, lent, 3, 0, 0, 3, 6), MIRTALUGHE_DONE, 0);
+    CHECK(stands(0, first));
+    changed(mirtalughe_open_add(chart, lent, 2, 0, 5, 5, 0), MIRTALUGHE_DONE, 1);
+    changed(mirtalughe_open_add(chart, lent, 3, 0, 9, 9, 9), MIRTALUGHE_DONE, 2);
+    changed(mirtalughe_open_drop(chart, lent, 2), MIRTALUGHE_DONE, 2);
+    changed(mirtalughe_open_drop(chart, lent, 2), MIRTALUGHE_UNUSED, 0);
+    changed(mirtalughe_open_drop(chart, lent, MIRTALUGHE_OPEN_PLACES), MIRTALUGHE_UNUSED, 0);
+    changed(mirtalughe_open_drop(chart, MIRTALUGHE_OPEN_NUMBERS - 1, 1), MIRTALUGHE_ROOM, 0);
+    changed(mirtalughe_open_add(chart, lent, 4, 0, 5, 5, 0), MIRTALUGHE_KIND, 0);
+    changed(mirtalughe_open_add(chart, lent, 3, 0, 5, 5, -32768), MIRTALUGHE_COORDINATE, 0);
+    changed(mirtalughe_open_add(chart, lent, 3, 5, 1, 5, 1), MIRTALUGHE_NO_LENGTH, 0);
+    changed(mirtalughe_open_add(chart, MIRTALUGHE_OPEN_NUMBERS - 1, 4, 0, 5, 5, 0), MIRTALUGHE_ROOM, 0);
+
+    mirtalughe_answer used = mirtalughe_open_used(chart, lent);
+    CHECK(used.number == MIRTALUGHE_DONE && used.place == 0 && used.count == 2);
+    CHECK(mirtalughe_open_used(chart, MIRTALUGHE_OPEN_NUMBERS - 1).number == MIRTALUGHE_ROOM);
+    memset(pairs, KEPT, sizeof pairs);
+    mirtalughe_answer listed = mirtalughe_open_pairs(chart, lent, pairs, 3);
+    CHECK(listed.number == MIRTALUGHE_DONE && listed.place == 0 && listed.count == 1);
+    CHECK(pairs[0] == 1 && pairs[1] == 0 && pairs[2] == KEPT);
+    changed(mirtalughe_open_drop(chart, lent, 0), MIRTALUGHE_DONE, 0);
+    CHECK(stands(1, second));
+    CHECK(mirtalughe_open_pairs(chart, lent, NULL, 0).count == 0);
+    changed(mirtalughe_open_add(chart, lent, 3, 0, 0, 3, 6), MIRTALUGHE_DONE, 0);
+    mirtalughe_answer tight = mirtalughe_open_pairs(chart, lent, pairs + 2, 1);
+    CHECK(tight.number == MIRTALUGHE_ROOM && tight.place == 0 && tight.count == 0 && pairs[2] == KEPT);
+
+    for (size_t i = 2; i < MIRTALUGHE_OPEN_PLACES; i++) changed(mirtalughe_open_add(chart, lent, 3, 0, 9, 9, 9), MIRTALUGHE_DONE, i);
+    changed(mirtalughe_open_add(chart, lent, 3, 0, 9, 9, 9), MIRTALUGHE_FULL, 0);
+    changed(mirtalughe_open_add(chart, lent, 4, 0, 9, 9, 9), MIRTALUGHE_KIND, 0);
+    CHECK(mirtalughe_open_used(chart, lent).count == MIRTALUGHE_OPEN_PLACES);
+}
+
 static void sizes(void) {
     static const uint8_t no_pieces[] = {0};
     CHECK(mirtalughe_read(no_pieces, 1, list, MIRTALUGHE_LIST_ROOM).number == MIRTALUGHE_DONE);
@@ -438,6 +497,11 @@ static void null(void) {
     CHECK(mirtalughe_sweep(NULL, 0, 0, NULL, 0).ended);
     CHECK(mirtalughe_full_sweep(NULL, 0, 0, NULL, 0).ended);
     CHECK(mirtalughe_check(NULL, 0, NULL, 0).says == MIRTALUGHE_ACCEPTED);
+    CHECK(mirtalughe_open_empty(NULL, 0).number == MIRTALUGHE_ROOM);
+    CHECK(mirtalughe_open_add(NULL, 0, 3, 0, 0, 1, 1).number == MIRTALUGHE_ROOM);
+    CHECK(mirtalughe_open_drop(NULL, 0, 0).number == MIRTALUGHE_ROOM);
+    CHECK(mirtalughe_open_used(NULL, 0).number == MIRTALUGHE_ROOM);
+    CHECK(mirtalughe_open_pairs(NULL, 0, NULL, 0).number == MIRTALUGHE_ROOM);
     CHECK(mirtalughe_sweep(crossing, MIRTALUGHE_PIECE_NUMBERS, UINT32_MAX, NULL, 0).steps == 2);
 }
 
@@ -452,6 +516,7 @@ int main(void) {
     answers_of_sweep();
     answers_of_check();
     answers_of_fold();
+    answers_of_open();
     numbers();
     sizes();
     version();

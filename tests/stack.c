@@ -61,6 +61,28 @@ static void fold(void) {
     wrong |= mirtalughe_fold(1, 1, MIRTALUGHE_MOST_FOLDED, line, MIRTALUGHE_FOLD_ROOM).count != MIRTALUGHE_MOST_FOLDED;
 }
 
+static int32_t chart[MIRTALUGHE_OPEN_NUMBERS];
+static uint8_t open_list[MIRTALUGHE_PAIRS_ROOM(MIRTALUGHE_OPEN_PLACES)];
+
+static void open_empty(void) { wrong |= mirtalughe_open_empty(chart, MIRTALUGHE_OPEN_NUMBERS).number != MIRTALUGHE_DONE; }
+
+static void open_add(void) {
+    for (int32_t i = 0; i < MIRTALUGHE_OPEN_PLACES; i++) {
+        mirtalughe_changed added =
+            mirtalughe_open_add(chart, MIRTALUGHE_OPEN_NUMBERS, 3, -MIRTALUGHE_LIMIT, 150 * i, MIRTALUGHE_LIMIT, -150 * i);
+        wrong |= added.piece != (size_t)i;
+    }
+}
+
+static void open_used(void) { wrong |= mirtalughe_open_used(chart, MIRTALUGHE_OPEN_NUMBERS).count != MIRTALUGHE_OPEN_PLACES; }
+
+static void open_pairs(void) {
+    mirtalughe_answer listed = mirtalughe_open_pairs(chart, MIRTALUGHE_OPEN_NUMBERS, open_list, sizeof open_list);
+    wrong |= listed.count != sizeof open_list / 2;
+}
+
+static void open_drop(void) { wrong |= mirtalughe_open_drop(chart, MIRTALUGHE_OPEN_NUMBERS, 199).piece != 199; }
+
 static size_t taken(void (*call)(void)) {
     memset(stack, PAINT, ROOM);
     getcontext(&guest);
@@ -103,6 +125,8 @@ int main(void) {
         {"mirtalughe_full_sweep", full_sweep}, {"mirtalughe_check", check},
         {"mirtalughe_fold", fold},
         {"mirtalughe_region", region},   {"mirtalughe_half_line", half_line},
+        {"mirtalughe_open_empty", open_empty}, {"mirtalughe_open_add", open_add}, {"mirtalughe_open_used", open_used},
+        {"mirtalughe_open_pairs", open_pairs}, {"mirtalughe_open_drop", open_drop},
     };
     largest();
     size_t none = taken(nothing), most = 0;

@@ -38,6 +38,8 @@ REFUSALS = {
     14: "more than 200 pieces",
     15: "an odd count of numbers or a corner count outside 3 to 64",
     16: "an odd number of bytes, two a pair",
+    17: "all 200 places of an open chart are used",
+    18: "the number to drop from an open chart is free or unknown",
 }
 
 

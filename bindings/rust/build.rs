@@ -5,7 +5,7 @@ use std::fs;
 use std::path::PathBuf;
 
 /// The sizes that stand in the header as plain numbers; the others follow from them.
-const SIZES: [&str; 4] = ["MOST_PIECES", "LIMIT", "PIECE_NUMBERS", "MOST_FOLDED"];
+const SIZES: [&str; 5] = ["MOST_PIECES", "LIMIT", "PIECE_NUMBERS", "MOST_FOLDED", "OPEN_PLACES"];
 
 fn take_sizes() {
   let header = PathBuf::from(env!("CARGO_MANIFEST_DIR")).join("../../crates/chart_c/include/mirtalughe.h");

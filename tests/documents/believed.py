@@ -115,6 +115,22 @@ folded_line/specs/Line:line RunsLeftToRight
 """,
     ),
     (
+        "2, an open chart",
+        "open_chart/specs/Demand:AddsExactly,DropsExactly,ListsWhenRoomy,CountsUsed,PiecesAsGiven,KeepsLength,RefusedAltersNothing,"
+        "AltersOnePlace,AddsAfterDropping,BeginsEmpty,StaysTrue,ListsAfresh,ListsExactly,ListsInOrder,ListsOnce "
+        "open_chart/specs/Changes:changedOf,afterAdding,afterDropping,emptyingOf,afterEmptying,usedOf "
+        "open_chart/specs/Listing:openPairsOf,lentAfter",
+        LISTS
+        + TEST
+        + """
+open_chart/specs/Changes:adding AddsExactly
+open_chart/specs/Changes:dropping DropsExactly
+open_chart/specs/Listing:listingOn ListsWhenRoomy
+open_chart/specs/Memory:usedBelow CountsUsed
+open_chart/specs/Listing:openPairs `ListsExactly`, `ListsInOrder` and `ListsOnce`
+""",
+    ),
+    (
         "3",
         "promises/specs/Sweep:ListsExactly,ListsInOrder,VisitsInOrder,ListsAllPairs,FullSweepBounded,FirstCommon,Ported "
         "promises/specs/Chart:NoneUpright",

@@ -172,7 +172,7 @@ def rust_layout(*sources):
 
 def check_layout():
     due = header_layout()
-    proved = rust_layout(text_of("crates/chart_c/src/lib.rt"), text_of("crates/charts/src/lib.rt"))
+    proved = rust_layout(text_of("crates/chart_c/src/lib.rt"), text_of("crates/charts/src/lib.rt"), text_of("crates/open_chart/src/lib.rt"))
     wrapper = rust_layout(text_of("bindings/rust/src/calls.rs"))
     for who, told in (("crates/chart_c/src/lib.rt", proved), ("the wrapper", wrapper)):
         same(f"{who}, calls", sorted(told), sorted(due))

@@ -30,6 +30,7 @@ LIMIT: int = header.size("LIMIT")
 PIECE_NUMBERS: int = header.size("PIECE_NUMBERS")
 LIST_ROOM: int = header.size("LIST_ROOM")
 FOLD_ROOM: int = header.size("FOLD_ROOM")
+OPEN_NUMBERS: int = header.size("OPEN_NUMBERS")
 LONGEST_FILE: int = header.size("LONGEST_FILE")
 MOST_BUDGET: int = 2**32 - 1
 
@@ -259,3 +260,35 @@ def half_line(piece: PieceLike, start: Whole, through: Whole) -> Turn | None:
     carries."""
     met = call("half_line", *numbers_of([piece]), *start, *through)
     return Turn(met.turn) if met.meets else None
+
+
+# An open chart is the memory that these calls change: five numbers a place.
+OpenChart = Any
+
+
+def open_empty() -> OpenChart:
+    """An open chart without pieces."""
+    chart = (ctypes.c_int32 * OPEN_NUMBERS)()
+    call("open_empty", chart)
+    return chart
+
+
+def open_add(chart: OpenChart, piece: PieceLike) -> int:
+    """Adds a piece at the lowest free place; its number from then on."""
+    return int(call("open_add", chart, *numbers_of([piece])).piece)
+
+
+def open_drop(chart: OpenChart, number: int) -> int:
+    """Drops the piece of a number, which is then free."""
+    return int(call("open_drop", chart, number).piece)
+
+
+def open_used(chart: OpenChart) -> int:
+    """How many pieces stand on an open chart."""
+    return int(call("open_used", chart).count)
+
+
+def open_pairs(chart: OpenChart) -> list[tuple[int, int]]:
+    """Every pair of an open chart's pieces that meet, by their own numbers, the greater first."""
+    data = lent(room("PAIRS_ROOM", open_used(chart)))
+    return pairs_in(data, call("open_pairs", chart, data).count)

@@ -79,6 +79,14 @@ class Calls(unittest.TestCase):
         self.assertEqual(mirtalughe.fold(2, 4, 4), [(1, 0, 0, 2, 4), (3, 2, 4, 4, 0)])
         self.assertEqual(len(mirtalughe.fold(1, 1, 200)), 200)
 
+    def test_open_chart(self):
+        chart = mirtalughe.open_empty()
+        self.assertEqual([mirtalughe.open_add(chart, piece) for piece in (*GAP, *FIRST)], [0, 1, 2, 3, 4])
+        self.assertEqual(mirtalughe.open_drop(chart, 1), 1)
+        self.assertEqual((mirtalughe.open_used(chart), set(mirtalughe.open_pairs(chart))), (4, {(2, 0), (3, 0), (4, 0), (4, 3)}))
+        self.assertEqual(mirtalughe.open_add(chart, GAP[1]), 1)
+        self.assertIn((1, 0), mirtalughe.open_pairs(chart))
+
     def test_upright_pieces(self):
         gap = [(3, 0, 0, 0, 10), (3, -5, 3, 5, 3), (3, -5, 6, 5, 6)]
         ported, full = mirtalughe.sweep(gap), mirtalughe.full_sweep(gap)

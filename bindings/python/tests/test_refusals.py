@@ -57,6 +57,11 @@ class Refusals(unittest.TestCase):
         self.refused(13, 0, "mS is above H and m doesn't divide H", mirtalughe.fold, 2, 3, 2)
         self.refused(14, 0, "more than 200 pieces", mirtalughe.fold, 1, 1, 201)
 
+    def test_open_charts(self):
+        chart = mirtalughe.open_empty()
+        self.refused(18, 0, "the number to drop from an open chart is free or unknown", mirtalughe.open_drop, chart, 0)
+        self.refused(4, 0, "kind outside 0 to 3", mirtalughe.open_add, chart, (4, 0, 0, 1, 1))
+
     def test_regions_and_half_lines(self):
         corners = [(0, 0), (9, 0), (9, 9)]
         told = "an odd count of numbers or a corner count outside 3 to 64"

@@ -35,6 +35,19 @@ unsafe extern "C" {
     tx: i32,
     ty: i32,
   ) -> HalfMet;
+  pub fn mirtalughe_open_empty(chart: *mut i32, lent: usize) -> Answer;
+  pub fn mirtalughe_open_add(
+    chart: *mut i32,
+    lent: usize,
+    kind: i32,
+    x1: i32,
+    y1: i32,
+    x2: i32,
+    y2: i32,
+  ) -> Changed;
+  pub fn mirtalughe_open_drop(chart: *mut i32, lent: usize, piece: usize) -> Changed;
+  pub fn mirtalughe_open_used(chart: *const i32, length: usize) -> Answer;
+  pub fn mirtalughe_open_pairs(chart: *const i32, length: usize, pairs: *mut u8, lent: usize) -> Answer;
 }
 
 #[repr(C)]
@@ -49,6 +62,21 @@ impl Answer {
   pub fn checked(self, given: Given) -> Result<usize, Refusal> {
     refusal::check(self.number, self.place, given)?;
     Ok(self.count)
+  }
+}
+
+#[repr(C)]
+pub struct Changed {
+  number: u8,
+  place: usize,
+  piece: usize,
+}
+
+impl Changed {
+  /// The piece's number, or the refusal.
+  pub fn checked(self) -> Result<u8, Refusal> {
+    refusal::check(self.number, self.place, Given::Open)?;
+    Ok(self.piece as u8)
   }
 }
 

@@ -17,10 +17,12 @@
 //! Whatever was lent then keeps its content.
 
 mod calls;
+mod open;
 mod refusal;
 
 use std::cmp::Ordering;
 
+pub use open::OpenChart;
 pub use refusal::{Fault, Given, Refusal};
 
 /// The number that a size of the header is.
@@ -59,6 +61,12 @@ pub const MOST_PAIRS: usize = pairs_room(MOST_PIECES) / 2;
 
 /// No sweep takes more steps.
 pub const MOST_STEPS: usize = 2 * MOST_PIECES + MOST_PAIRS;
+
+/// The places of an open chart.
+pub const OPEN_PLACES: usize = number(env!("MIRTALUGHE_OPEN_PLACES"));
+
+/// The numbers of an open chart, five a place.
+pub const OPEN_NUMBERS: usize = PIECE_NUMBERS * OPEN_PLACES;
 
 /// kind, x1, y1, x2, y2
 pub type Piece = [i32; PIECE_NUMBERS];

@@ -21,10 +21,12 @@ pub enum Fault {
   TooMany = 14,
   Outline = 15,
   OddBytes = 16,
+  Full = 17,
+  Unused = 18,
 }
 
 impl Fault {
-  pub const ALL: [Fault; 14] = [
+  pub const ALL: [Fault; 16] = [
     Fault::FileEnds,
     Fault::Groups,
     Fault::Count,
@@ -39,6 +41,8 @@ impl Fault {
     Fault::TooMany,
     Fault::Outline,
     Fault::OddBytes,
+    Fault::Full,
+    Fault::Unused,
   ];
 
   pub const fn number(self) -> u8 {
@@ -61,6 +65,8 @@ impl Fault {
       Fault::TooMany => "more than 200 pieces",
       Fault::Outline => "an odd count of numbers or a corner count outside 3 to 64",
       Fault::OddBytes => "an odd number of bytes, two a pair",
+      Fault::Full => "all 200 places of an open chart are used",
+      Fault::Unused => "the number to drop from an open chart is free or unknown",
     }
   }
 }
@@ -76,6 +82,8 @@ pub enum Given {
   HalfLine,
   /// The three numbers of a folded line.
   Line,
+  /// An open chart and a change of it.
+  Open,
 }
 
 /// A call that is refused: why, and where. In a file the place is the byte at which the number starts, the kind's for
@@ -100,7 +108,7 @@ impl fmt::Display for Refusal {
       (Given::List, _) => Ok(()),
       (Given::Outline, Fault::Coordinate) if self.place == 0 => write!(f, ", at corner 0 or the peak"),
       (Given::Outline, Fault::Coordinate | Fault::NoLength) => write!(f, ", at corner {}", self.place),
-      (Given::Outline | Given::HalfLine | Given::Line, _) => Ok(()),
+      (Given::Outline | Given::HalfLine | Given::Line | Given::Open, _) => Ok(()),
     }
   }
 }

@@ -269,3 +269,29 @@ fn folded_lines() {
   }
   assert_eq!(fold(61, 1, 1, &mut lent).unwrap_err().to_string(), "refused 12: an argument out of range");
 }
+
+/// Pieces come and go, each under its number; whatever stands in the memory is a chart.
+#[test]
+fn an_open_chart() {
+  let mut chart = OpenChart::default();
+  assert_eq!((chart.used(), chart.all_pairs(&mut [])), (0, Ok(&[][..])));
+  assert!(chart.places().iter().all(|place| *place == [-1; 5]));
+  for (number, piece) in
+    [[3, 0, 0, 0, 10], [3, 9, 9, 8, 8], [3, -5, 3, 5, 3], [3, -5, 6, 5, 6]].into_iter().enumerate()
+  {
+    assert_eq!(chart.add(piece).map(usize::from), Ok(number));
+  }
+  let mut lent = [9; pairs_room(4)];
+  assert_eq!(chart.all_pairs(&mut lent), Ok(&[[2, 0], [3, 0]][..]));
+  assert_eq!(lent[4..], [9; 8]);
+  assert_eq!(chart.remove(0), Ok(()));
+  assert_eq!((chart.used(), chart.all_pairs(&mut lent)), (3, Ok(&[][..])));
+  assert_eq!(chart.add([3, -5, 4, 5, 2]), Ok(0));
+  assert_eq!(chart.all_pairs(&mut lent), Ok(&[[2, 0]][..]));
+  assert_eq!(chart.places()[..2], [[3, -5, 4, 5, 2], [3, 9, 9, 8, 8]]);
+
+  let mut numbers = [i32::MIN; OPEN_NUMBERS];
+  numbers[990..].copy_from_slice(&[3, 0, 0, 4, 4, 3, 0, 4, 4, 0]);
+  let mut lent = [0; 2];
+  assert_eq!(OpenChart::from(numbers).all_pairs(&mut lent), Ok(&[[199, 198]][..]));
+}

@@ -120,11 +120,48 @@ fn refused_list(list: &[i32], room: usize, fault: Fault, place: usize, told: &st
 
 #[test]
 fn numbers() {
-  assert_eq!(Fault::ALL.map(Fault::number), [1, 2, 3, 4, 5, 6, 7, 8, 9, 12, 13, 14, 15, 16]);
+  assert_eq!(Fault::ALL.map(Fault::number), [1, 2, 3, 4, 5, 6, 7, 8, 9, 12, 13, 14, 15, 16, 17, 18]);
 }
 
 #[test]
 fn as_an_error() {
   let error: Box<dyn std::error::Error> = Box::new(meeting(&[]).unwrap_err());
   assert_eq!(error.to_string(), LENGTH);
+}
+
+/// A refused change leaves the chart as it was, and its place is zero.
+#[test]
+fn open_charts() {
+  let mut chart = OpenChart::new();
+  chart.add(SOUND).unwrap();
+  let kept = chart.clone();
+  let wrong: [(Piece, Fault, &str); 3] = [
+    ([4, LIMIT + 1, 0, 1, 1], Fault::Kind, "refused 4: kind outside 0 to 3"),
+    ([3, LIMIT + 1, 0, 1, 1], Fault::Coordinate, "refused 5: coordinate out of range"),
+    ([3, 1, 1, 1, 1], Fault::NoLength, "refused 6: both ends of a piece equal"),
+  ];
+  for (piece, fault, told) in wrong {
+    refused_change(chart.add(piece).unwrap_err(), fault, told);
+  }
+  for number in [1, OPEN_PLACES - 1, OPEN_PLACES, usize::MAX] {
+    let told = "refused 18: the number to drop from an open chart is free or unknown";
+    refused_change(chart.remove(number).unwrap_err(), Fault::Unused, told);
+  }
+  assert_eq!(chart, kept);
+  for number in 1..OPEN_PLACES {
+    assert_eq!(chart.add(SOUND).map(usize::from), Ok(number));
+  }
+  let full = chart.clone();
+  let told = "refused 17: all 200 places of an open chart are used";
+  refused_change(chart.add(SOUND).unwrap_err(), Fault::Full, told);
+  refused_change(chart.add(wrong[0].0).unwrap_err(), wrong[0].1, wrong[0].2);
+  assert_eq!(chart, full);
+  let mut lent = vec![7; pairs_room(OPEN_PLACES) - 1];
+  refused_change(chart.all_pairs(&mut lent).unwrap_err(), Fault::Room, ROOM);
+  assert!(lent.iter().all(|b| *b == 7));
+}
+
+fn refused_change(refused: Refusal, fault: Fault, told: &str) {
+  assert_eq!(refused, Refusal { fault, place: 0, given: Given::Open });
+  assert_eq!(refused.to_string(), told);
 }

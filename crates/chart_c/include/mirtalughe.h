@@ -12,7 +12,7 @@
                 reads or writes it during the call. What is const nobody writes during the call; it may be one list in
                 several calls at once.
    Threads.     A call keeps nothing after it returns and has no state, so that any number may run at once.
-   Memory.      Nothing is allocated. A call takes at most 10 KiB of stack, as measured (tests/stack.c).
+   Memory.      Nothing is allocated. A call takes at most 12 KiB of stack, as measured (tests/stack.c).
    Refusals.    Whatever it is given, a call returns. A refusal has `number` other than MIRTALUGHE_DONE and a `place`;
                 every other field is zero or false, and lent memory keeps its content.
    -32,768.     It is no coordinate of a chart. A list or a file that has it is refused with MIRTALUGHE_COORDINATE. Only
@@ -30,9 +30,9 @@ extern "C" {
 
 /* ---- version: of what this header says. MAJOR grows where a program that was right may have to change. */
 #define MIRTALUGHE_VERSION_MAJOR 0
-#define MIRTALUGHE_VERSION_MINOR 10
+#define MIRTALUGHE_VERSION_MINOR 11
 #define MIRTALUGHE_VERSION_PATCH 0
-#define MIRTALUGHE_VERSION "0.10.0"
+#define MIRTALUGHE_VERSION "0.11.0"
 
 /* ---- sizes */
 #define MIRTALUGHE_MOST_PIECES 64 /* of a chart */
@@ -54,6 +54,10 @@ extern "C" {
 /* Bytes to lend for the pairs of n pieces, two a pair; n is evaluated twice. */
 #define MIRTALUGHE_PAIRS_ROOM(n) ((n) * ((n)-1))
 #define MIRTALUGHE_MOST_PAIRS (MIRTALUGHE_PAIRS_ROOM(MIRTALUGHE_MOST_PIECES) / 2)
+
+/* An open chart: its places, and the numbers to lend for it. */
+#define MIRTALUGHE_OPEN_PLACES 200
+#define MIRTALUGHE_OPEN_NUMBERS (MIRTALUGHE_PIECE_NUMBERS * MIRTALUGHE_OPEN_PLACES)
 
 /* No sweep of the library takes more steps; UINT32_MAX as a budget is enough for all. */
 #define MIRTALUGHE_MOST_STEPS (2 * MIRTALUGHE_MOST_PIECES + MIRTALUGHE_MOST_PAIRS)
@@ -92,17 +96,28 @@ typedef enum {
     /* an odd count of numbers or a corner count outside 3 to 64. Place in a list: 0. */
     MIRTALUGHE_OUTLINE = 15,
     /* an odd number of bytes, two a pair. Place in a list: 0. */
-    MIRTALUGHE_ODD_BYTES = 16
+    MIRTALUGHE_ODD_BYTES = 16,
+    /* all 200 places of an open chart are used. Place in a list: 0. */
+    MIRTALUGHE_FULL = 17,
+    /* the number to drop from an open chart is free or unknown. Place in a list: 0. */
+    MIRTALUGHE_UNUSED = 18
 } mirtalughe_refusal;
 
 /* ---- answers. `number` is one of mirtalughe_refusal, and `place` a byte of the file or the number of a piece. */
 
-/* `count` pieces read or drawn, bytes written, or pairs listed. */
+/* `count` pieces read, drawn or standing on an open chart, bytes written, or pairs listed. */
 typedef struct {
     uint8_t number;
     size_t place;
     size_t count;
 } mirtalughe_answer;
+
+/* What a change of an open chart answers: `piece` is the number of the piece that was added or dropped. */
+typedef struct {
+    uint8_t number;
+    size_t place;
+    size_t piece;
+} mirtalughe_changed;
 
 /* What `meets` is: of mirtalughe_meeting NOTHING, CROSSING or OVERLAP, of mirtalughe_place NOTHING, AT or ALONG. */
 typedef enum {
@@ -263,6 +278,30 @@ mirtalughe_located mirtalughe_region(const int32_t *outline, size_t length, int3
    MIRTALUGHE_KIND, MIRTALUGHE_COORDINATE, MIRTALUGHE_NO_LENGTH of the piece, then MIRTALUGHE_COORDINATE and
    MIRTALUGHE_NO_LENGTH of the two points. The place is zero. */
 mirtalughe_half_met mirtalughe_half_line(int32_t kind, int32_t x1, int32_t y1, int32_t x2, int32_t y2, int32_t x, int32_t y, int32_t tx, int32_t ty);
+
+/* An open chart: pieces come and go, and the numbers of the others stay. It has MIRTALUGHE_OPEN_PLACES places in lent
+   memory of at least MIRTALUGHE_OPEN_NUMBERS numbers, five a place; numbers past those keep their values. A place is used
+   when its five numbers are a piece, and free otherwise, whatever they are; one that a call leaves free has -1 five times.
+   So the piece of place i stands at chart + 5 * i. Less memory is refused with MIRTALUGHE_ROOM, before anything else; the
+   place of every refusal is zero, and a refused call alters nothing. */
+
+/* Makes an open chart without pieces of lent memory, whatever stands in it. `count` is 0. */
+mirtalughe_answer mirtalughe_open_empty(int32_t *chart, size_t lent);
+
+/* Adds a piece at the lowest free place; `piece` is its number from then on. Refusals: MIRTALUGHE_KIND,
+   MIRTALUGHE_COORDINATE, MIRTALUGHE_NO_LENGTH, then MIRTALUGHE_FULL. */
+mirtalughe_changed mirtalughe_open_add(int32_t *chart, size_t lent, int32_t kind, int32_t x1, int32_t y1, int32_t x2, int32_t y2);
+
+/* Drops the piece of a number, whose place is then free. MIRTALUGHE_UNUSED where no piece has that number. */
+mirtalughe_changed mirtalughe_open_drop(int32_t *chart, size_t lent, size_t piece);
+
+/* How many pieces stand on an open chart. */
+mirtalughe_answer mirtalughe_open_used(const int32_t *chart, size_t length);
+
+/* Every pair of the n pieces of an open chart that meet, by their own numbers, two bytes a pair, the greater number first:
+   for a from 0, for b below a. `lent` is at least MIRTALUGHE_PAIRS_ROOM(n); MIRTALUGHE_PAIRS_ROOM(MIRTALUGHE_OPEN_PLACES)
+   is always enough. Bytes past the last pair keep their values. */
+mirtalughe_answer mirtalughe_open_pairs(const int32_t *chart, size_t length, uint8_t *pairs, size_t lent);
 
 #ifdef __cplusplus
 }

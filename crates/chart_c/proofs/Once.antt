@@ -15,6 +15,11 @@ use Rattle.chart_c.proofs.mirtalughe_full_sweep.Reads as full-sweep
 use Rattle.chart_c.proofs.mirtalughe_check.Reads as check
 use Rattle.chart_c.proofs.mirtalughe_region.Reads as region
 use Rattle.chart_c.proofs.mirtalughe_half_line.Reads as half-line
+use Rattle.chart_c.proofs.mirtalughe_open_empty.Reads as open-empty
+use Rattle.chart_c.proofs.mirtalughe_open_add.Reads as open-add
+use Rattle.chart_c.proofs.mirtalughe_open_drop.Reads as open-drop
+use Rattle.chart_c.proofs.mirtalughe_open_used.Reads as open-used
+use Rattle.chart_c.proofs.mirtalughe_open_pairs.Reads as open-pairs
 
 pub orient-once : OneResult orient.Post
 orient-once κ a x y s t h k = h ∙ sym k
@@ -54,3 +59,18 @@ region-once κ a x y s t h k = h ∙ sym k
 
 pub half-line-once : OneResult half-line.Post
 half-line-once κ a x y s t h k = h ∙ sym k
+
+pub open-empty-once : OneOutcome open-empty.Post (λ κ s. now (s .0))
+open-empty-once κ a x y s t h k = (h .0 ∙ sym (k .0), h .1 ∙ sym (k .1))
+
+pub open-add-once : OneOutcome open-add.Post (λ κ s. now (s .0))
+open-add-once κ a x y s t h k = (h .0 ∙ sym (k .0), h .1 ∙ sym (k .1))
+
+pub open-drop-once : OneOutcome open-drop.Post (λ κ s. now (s .0))
+open-drop-once κ a x y s t h k = (h .0 ∙ sym (k .0), h .1 ∙ sym (k .1))
+
+pub open-used-once : OneResult open-used.Post
+open-used-once κ a x y s t h k = h ∙ sym k
+
+pub open-pairs-once : OneOutcome open-pairs.Post (λ κ s. now (s .1 .0))
+open-pairs-once κ a x y s t h k = (h .0 ∙ sym (k .0), h .1 ∙ sym (k .1))

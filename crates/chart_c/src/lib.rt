@@ -11,6 +11,10 @@ ghost use Rattle.naive.specs.AllPairs.{allPairsOf, lentAfter};
 ghost use Rattle.bentley_ottmann.specs.Swept.{sweepOf};
 ghost use Rattle.bentley_ottmann.specs.Swept.{lentAfter as sweptAfter};
 ghost use Rattle.full_sweep.specs.Swept.{sweepOf as fullSweepOf, lentAfter as fullAfter};
+ghost use Rattle.open_chart.specs.Memory.{five};
+ghost use Rattle.open_chart.specs.Changes.{changedOf, adding, dropping, afterAdding, afterDropping, emptyingOf, afterEmptying, usedOf};
+ghost use Rattle.open_chart.specs.Listing.{openPairsOf};
+ghost use Rattle.open_chart.specs.Listing.{lentAfter as openAfter};
 ghost use Rattle.supplied.specs.Checking.{checkedOf};
 ghost use Rattle.folded_line.specs.Drawing.{Draws};
 ghost use Rattle.chart_c.specs.Sweeps.{sweptAs, sweptFields};
@@ -29,6 +33,7 @@ use fractions::Point;
 use half_line::IHalfLineLineSegmentSoS;
 use line_segment::EndPoint;
 use line_segment::Meeting;
+use open_chart::Changed;
 use orientation::Orientation;
 use place::Place;
 use region::Region;
@@ -450,4 +455,51 @@ pub extern "C" fn mirtalughe_half_line(
     let answer = half_line::asked(kind, x1, y1, x2, y2, x, y, tx, ty);
     let meeting = answer.meeting;
     half_met(answer.number, meeting)
+}
+
+// Makes an open chart without pieces.
+#[no_mangle]
+pub extern "C" fn mirtalughe_open_empty(chart: &mut [i32]) -> Answer
+    ensures { λ r. ⌜ (r ≡ emptyingOf (now (chart .entry))) × (now (chart .exit) ≡ afterEmptying (now (chart .entry))) ⌝ }
+{
+    open_chart::empty(chart)
+}
+
+// Adds a piece at the lowest free place of an open chart.
+#[no_mangle]
+pub extern "C" fn mirtalughe_open_add(
+    chart: &mut [i32],
+    kind: i32,
+    x1: i32,
+    y1: i32,
+    x2: i32,
+    y2: i32,
+) -> Changed
+    ensures { λ r. ⌜ (r ≡ changedOf (adding (now (chart .entry)) (five kind x1 y1 x2 y2))) × (now (chart .exit) ≡ afterAdding (now (chart .entry)) (five kind x1 y1 x2 y2)) ⌝ }
+{
+    open_chart::add(chart, kind, x1, y1, x2, y2)
+}
+
+// Drops the piece of a number from an open chart.
+#[no_mangle]
+pub extern "C" fn mirtalughe_open_drop(chart: &mut [i32], piece: usize) -> Changed
+    ensures { λ r. ⌜ (r ≡ changedOf (dropping (now (chart .entry)) piece)) × (now (chart .exit) ≡ afterDropping (now (chart .entry)) piece) ⌝ }
+{
+    open_chart::drop(chart, piece)
+}
+
+// How many places of an open chart are used.
+#[no_mangle]
+pub extern "C" fn mirtalughe_open_used(chart: &[i32]) -> Answer
+    ensures { λ r. ⌜ r ≡ usedOf (now (chart .entry)) ⌝ }
+{
+    open_chart::used(chart)
+}
+
+// Every pair of an open chart's pieces that meet, under the numbers of their places.
+#[no_mangle]
+pub extern "C" fn mirtalughe_open_pairs(chart: &[i32], pairs: &mut [u8]) -> Answer
+    ensures { λ r. ⌜ (r ≡ openPairsOf (now (chart .entry)) (length (now (pairs .entry)))) × (now (pairs .exit) ≡ openAfter (now (chart .entry)) (now (pairs .entry))) ⌝ }
+{
+    open_chart::all_pairs(chart, pairs)
 }

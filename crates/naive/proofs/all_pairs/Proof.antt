@@ -3,6 +3,7 @@ use borrow.Author.Needs.{needs}
 use mathlib.Core.Path.{_≡_, sym, ap, _∙_}
 use mathlib.Core.List.{List}
 use Prim.Native.Nat.{_≤_}
+use native.Mathlib.Omega.{arith}
 use lib.ListN.{length}
 use Rattle.charts.specs.Chart.{most}
 use Rattle.charts.specs.Answer.{doneWith, listingOf}
@@ -45,7 +46,7 @@ list-pairs-requires c κs =
     let a = c .before .before in
     let list = start a .args .list .now in
     let g = listing-goes list (length (start a .args .pairs .now)) _ (goes a) in
-    (few a, g .1, stored-long list (c .before .pieces-of .result .all) _ (c .before .pieces-of .ensures) (g .0))
+    (omega (arith, few a), g .1, stored-long list (c .before .pieces-of .result .all) _ (c .before .pieces-of .ensures) (g .0))
 
 done-requires : tie.Need-done-requires
 done-requires c κs = search needs

@@ -42,6 +42,27 @@ unsafe extern "C" {
     tx: i32,
     ty: i32,
   ) -> HalfMet;
+  fn mirtalughe_open_empty(chart: *mut i32, lent: usize) -> Answer;
+  fn mirtalughe_open_add(
+    chart: *mut i32,
+    lent: usize,
+    kind: i32,
+    x1: i32,
+    y1: i32,
+    x2: i32,
+    y2: i32,
+  ) -> Changed;
+  fn mirtalughe_open_drop(chart: *mut i32, lent: usize, piece: usize) -> Changed;
+  fn mirtalughe_open_used(chart: *const i32, length: usize) -> Answer;
+  fn mirtalughe_open_pairs(chart: *const i32, length: usize, pairs: *mut u8, lent: usize)
+  -> Answer;
+}
+
+#[repr(C)]
+struct Changed {
+  number: u8,
+  place: usize,
+  piece: usize,
 }
 
 #[repr(C)]
@@ -257,4 +278,34 @@ pub fn check(list: &[i32], pairs: &[u8]) -> Result<Said, Refusal> {
     (number, place, 0, 0, 0) if number > 0 => Err((number, place)),
     other => panic!("{other:?} is no answer"),
   }
+}
+
+pub fn open_empty(chart: &mut [i32]) -> Answer {
+  unsafe { mirtalughe_open_empty(chart.as_mut_ptr(), chart.len()) }
+}
+
+/// The number of the piece that was added, or why it is refused.
+pub fn open_add(chart: &mut [i32], piece: &Piece) -> Result<usize, Refusal> {
+  let [kind, x1, y1, x2, y2] = *piece;
+  changed(unsafe { mirtalughe_open_add(chart.as_mut_ptr(), chart.len(), kind, x1, y1, x2, y2) })
+}
+
+pub fn open_drop(chart: &mut [i32], piece: usize) -> Result<usize, Refusal> {
+  changed(unsafe { mirtalughe_open_drop(chart.as_mut_ptr(), chart.len(), piece) })
+}
+
+fn changed(told: Changed) -> Result<usize, Refusal> {
+  match (told.number, told.place, told.piece) {
+    (0, 0, piece) => Ok(piece),
+    (number @ 1.., place, 0) => Err((number, place)),
+    other => panic!("{other:?} is no answer"),
+  }
+}
+
+pub fn open_used(chart: &[i32]) -> Answer {
+  unsafe { mirtalughe_open_used(chart.as_ptr(), chart.len()) }
+}
+
+pub fn open_pairs(chart: &[i32], pairs: &mut [u8]) -> Answer {
+  unsafe { mirtalughe_open_pairs(chart.as_ptr(), chart.len(), pairs.as_mut_ptr(), pairs.len()) }
 }

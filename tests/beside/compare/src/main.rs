@@ -24,6 +24,7 @@ mod library;
 mod model;
 mod model_sweep;
 mod naive;
+mod open;
 mod order;
 mod orient;
 mod original;
@@ -52,6 +53,7 @@ use charts::Random;
 
 const GATE_SEED: u64 = 1;
 const GATE_FILES: usize = 20_000;
+const GATE_DAYS: usize = 400;
 const GRID_PAIR: &str = "grid-pair";
 
 /// Charts of one temper: how many, the one of each index, and what is compared on each.
@@ -73,14 +75,19 @@ impl Family {
 fn main() -> ExitCode {
   let words: Vec<String> = std::env::args().skip(1).collect();
   let words: Vec<&str> = words.iter().map(String::as_str).collect();
-  let (families, seed, files) = match words[..] {
-    ["gate"] => (gate(1), GATE_SEED, GATE_FILES),
+  let (families, seed, files, days) = match words[..] {
+    ["gate"] => (gate(1), GATE_SEED, GATE_FILES, GATE_DAYS),
     ["gate", share] => match share.parse() {
-      Ok(share) if share > 0 => (gate(share), GATE_SEED, GATE_FILES / share),
+      Ok(share) if share > 0 => (
+        gate(share),
+        GATE_SEED,
+        GATE_FILES / share,
+        GATE_DAYS.div_ceil(share),
+      ),
       _ => return usage(),
     },
     ["long", seed, count] => match (seed.parse(), count.parse()) {
-      (Ok(seed), Ok(count)) => (long(seed, count), seed, count),
+      (Ok(seed), Ok(count)) => (long(seed, count), seed, count, count),
       _ => return usage(),
     },
     ["written"] => return written(writing::print(whole().iter().flat_map(Family::charts))),
@@ -114,6 +121,17 @@ fn main() -> ExitCode {
     }
     Err(told) => {
       println!("compare: a folded line differs in {told}");
+      return ExitCode::FAILURE;
+    }
+  }
+  let start = Instant::now();
+  match open::compare(seed, days) {
+    Ok((count, refused)) => {
+      let seconds = start.elapsed().as_secs_f32();
+      println!("compare: {count} changes of open charts, {refused} of them refused, {seconds:.1} s");
+    }
+    Err(told) => {
+      println!("compare: an open chart differs in {told}");
       return ExitCode::FAILURE;
     }
   }
