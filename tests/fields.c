@@ -230,6 +230,30 @@ static void answers_of_all_pairs(void) {
     CHECK(memcmp(pairs, due, sizeof due) == 0);
 }
 
+static void answers_of_plain_order(void) {
+    static const int32_t ties[] = {3, 0, 0, 4, 4, 3, 0, 4, 4, 0, 3, 0, 2, 4, 2, 3, 0, 3, 1, 4};
+    memset(pairs, KEPT, sizeof pairs);
+    mirtalughe_answer listed = mirtalughe_plain_order(ties, LENGTH(ties), pairs, MIRTALUGHE_PAIRS_ROOM(4));
+    static const uint8_t due[] = {1, 3, 0, 1, 0, 2, 1, 2, KEPT};
+    CHECK(listed.number == MIRTALUGHE_DONE);
+    CHECK(listed.place == 0);
+    CHECK(listed.count == 4);
+    CHECK(memcmp(pairs, due, sizeof due) == 0);
+
+    mirtalughe_answer refused[] = {
+        mirtalughe_plain_order(gap, LENGTH(gap), pairs, MIRTALUGHE_PAIRS_ROOM(3)),
+        mirtalughe_plain_order(gap, LENGTH(gap), pairs, MIRTALUGHE_PAIRS_ROOM(3) - 1),
+        mirtalughe_plain_order(coordinate, LENGTH(coordinate), pairs, 0),
+    };
+    static const uint8_t said[][2] = {{MIRTALUGHE_UPRIGHT, 0}, {MIRTALUGHE_ROOM, 0}, {MIRTALUGHE_COORDINATE, 1}};
+    for (size_t i = 0; i < LENGTH(refused); i++) {
+        CHECK(refused[i].number == said[i][0]);
+        CHECK(refused[i].place == said[i][1]);
+        CHECK(refused[i].count == 0);
+    }
+    CHECK(memcmp(pairs, due, sizeof due) == 0);
+}
+
 static void is_refused(mirtalughe_swept swept, mirtalughe_refusal number, size_t place) {
     CHECK(swept.number == number);
     CHECK(swept.place == place);
@@ -464,6 +488,7 @@ static void sizes(void) {
     size_t most = every_two_cross(MIRTALUGHE_MOST_PIECES), room = MIRTALUGHE_PAIRS_ROOM(MIRTALUGHE_MOST_PIECES);
     CHECK(most == MIRTALUGHE_LIST_ROOM);
     CHECK(mirtalughe_all_pairs(list, most, pairs, room).count == MIRTALUGHE_MOST_PAIRS);
+    CHECK(mirtalughe_plain_order(list, most, pairs, room).count == MIRTALUGHE_MOST_PAIRS);
     CHECK(mirtalughe_sweep(list, most, UINT32_MAX, pairs, room).pairs == MIRTALUGHE_MOST_PAIRS);
     CHECK(mirtalughe_sweep(list, most, UINT32_MAX, pairs, room).steps == MIRTALUGHE_MOST_STEPS);
     CHECK(!mirtalughe_sweep(list, most, MIRTALUGHE_MOST_STEPS - 1, pairs, room).ended);
@@ -494,6 +519,7 @@ static void null(void) {
     CHECK(mirtalughe_region(NULL, 0, 0, 0).number == MIRTALUGHE_OUTLINE);
     CHECK(mirtalughe_all_pairs(NULL, 0, NULL, 0).number == MIRTALUGHE_DONE);
     CHECK(mirtalughe_all_pairs(crossing, MIRTALUGHE_PIECE_NUMBERS, NULL, 0).number == MIRTALUGHE_DONE);
+    CHECK(mirtalughe_plain_order(NULL, 0, NULL, 0).number == MIRTALUGHE_DONE);
     CHECK(mirtalughe_sweep(NULL, 0, 0, NULL, 0).ended);
     CHECK(mirtalughe_full_sweep(NULL, 0, 0, NULL, 0).ended);
     CHECK(mirtalughe_check(NULL, 0, NULL, 0).says == MIRTALUGHE_ACCEPTED);
@@ -513,6 +539,7 @@ int main(void) {
     answers_of_region();
     answers_of_half_line();
     answers_of_all_pairs();
+    answers_of_plain_order();
     answers_of_sweep();
     answers_of_check();
     answers_of_fold();

@@ -44,6 +44,10 @@ static void all_pairs(void) {
     wrong |= mirtalughe_all_pairs(list, MIRTALUGHE_LIST_ROOM, pairs, sizeof pairs).count != MIRTALUGHE_MOST_PAIRS;
 }
 
+static void plain_order(void) {
+    wrong |= mirtalughe_plain_order(list, MIRTALUGHE_LIST_ROOM, pairs, sizeof pairs).count != MIRTALUGHE_MOST_PAIRS;
+}
+
 static void sweep(void) {
     wrong |= mirtalughe_sweep(list, MIRTALUGHE_LIST_ROOM, UINT32_MAX, pairs, sizeof pairs).pairs != MIRTALUGHE_MOST_PAIRS;
 }
@@ -124,6 +128,7 @@ int main(void) {
         {"mirtalughe_sweep", sweep},     {"mirtalughe_write", write},
         {"mirtalughe_full_sweep", full_sweep}, {"mirtalughe_check", check},
         {"mirtalughe_fold", fold},
+        {"mirtalughe_check", check},     {"mirtalughe_plain_order", plain_order},
         {"mirtalughe_region", region},   {"mirtalughe_half_line", half_line},
         {"mirtalughe_open_empty", open_empty}, {"mirtalughe_open_add", open_add}, {"mirtalughe_open_used", open_used},
         {"mirtalughe_open_pairs", open_pairs}, {"mirtalughe_open_drop", open_drop},

@@ -40,6 +40,7 @@ REFUSALS = {
     16: "an odd number of bytes, two a pair",
     17: "all 200 places of an open chart are used",
     18: "the number to drop from an open chart is free or unknown",
+    19: "an upright piece, where none may be",
 }
 
 

@@ -131,6 +131,16 @@ open_chart/specs/Listing:openPairs `ListsExactly`, `ListsInOrder` and `ListsOnce
 """,
     ),
     (
+        "2, the order of the list",
+        "plain_order/specs/Demand:BeforeExactly,ListsInOrder,OneOrder,RefusesInOrder "
+        "same_order/specs/Demand:PlainIsPorted,EnoughBudget,RefusedAlike",
+        LISTS + PAIRS + SWEEP + """
+plain_order/specs/Order:before BeforeExactly
+plain_order/specs/Plain:inOrder `ListsInOrder` and `OneOrder`
+plain_order/specs/Plain:orderingOf RefusesInOrder
+""",
+    ),
+    (
         "3",
         "promises/specs/Sweep:ListsExactly,ListsInOrder,VisitsInOrder,ListsAllPairs,FullSweepBounded,FirstCommon,Ported "
         "promises/specs/Chart:NoneUpright",

@@ -54,6 +54,18 @@ class FoldedLine(unittest.TestCase):
         self.assertEqual(drawing.picture(self.chart, self.listing), (EXAMPLES / "folded_line.svg").read_bytes())
 
 
+class Order(unittest.TestCase):
+    def test_fan_told(self):
+        """docs/ORDER.md shows how the fan's listing begins, and every line that it tells of stands there."""
+        page, listing = (ROOT / "docs/ORDER.md").read_text(), (EXAMPLES / "booster_fan.listing.txt").read_text()
+        shown = re.search(r"```\n(pair .*?)```", page, re.S)[1]
+        self.assertIn(f"complete yes\n{shown}", listing)
+        self.assertLess(listing.index("pair 7 11 at 2395 2396"), listing.index("pair 3 7 at 2400 2400"))
+        for pair in re.findall(r"`(pair \d+ \d+)`", page):
+            self.assertIn(f"\n{pair} ", listing)
+        self.assertNotRegex(page, "(?i)sweep")
+
+
 class First(unittest.TestCase):
     def test_shown_whole(self):
         """The README shows examples/first.c, all but its head comment."""

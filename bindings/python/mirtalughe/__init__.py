@@ -234,6 +234,14 @@ def full_sweep(pieces: Pieces, budget: int = MOST_BUDGET) -> Swept:
     return swept("full_sweep", pieces, budget)
 
 
+def plain_order(pieces: Pieces) -> list[tuple[int, int]]:
+    """Every pair of pieces that meet, of a chart with no upright piece, the lesser number first: by first common point, then
+    the lesser number, then the greater."""
+    numbers = numbers_of(pieces)
+    data = lent(room("PAIRS_ROOM", len(numbers) // PIECE_NUMBERS))
+    return pairs_in(data, call("plain_order", numbers, data).count)
+
+
 def check(pieces: Pieces, pairs: Pairs) -> Accepted | FaultyEntry | Missing:
     """Whether a list of pairs, in any order, names each pair that meets once, and if not, where it is wrong. Bytes are two a
     pair."""

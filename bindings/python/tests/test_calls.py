@@ -79,6 +79,11 @@ class Calls(unittest.TestCase):
         self.assertEqual(mirtalughe.fold(2, 4, 4), [(1, 0, 0, 2, 4), (3, 2, 4, 4, 0)])
         self.assertEqual(len(mirtalughe.fold(1, 1, 200)), 200)
 
+    def test_plain_order(self):
+        later_first = [(3, 3, 0, 5, 2), (3, 3, 2, 5, 0), (3, 0, 0, 2, 2), (3, 0, 2, 2, 0)]
+        self.assertEqual(mirtalughe.plain_order(later_first), [(2, 3), (0, 1)])
+        self.assertEqual(mirtalughe.plain_order(later_first), mirtalughe.sweep(later_first).pairs)
+
     def test_open_chart(self):
         chart = mirtalughe.open_empty()
         self.assertEqual([mirtalughe.open_add(chart, piece) for piece in (*GAP, *FIRST)], [0, 1, 2, 3, 4])

@@ -57,6 +57,9 @@ class Refusals(unittest.TestCase):
         self.refused(13, 0, "mS is above H and m doesn't divide H", mirtalughe.fold, 2, 3, 2)
         self.refused(14, 0, "more than 200 pieces", mirtalughe.fold, 1, 1, 201)
 
+    def test_plain_order(self):
+        self.refused(19, 0, "an upright piece, where none may be", mirtalughe.plain_order, [SOUND, (3, 0, 0, 0, 1)])
+
     def test_open_charts(self):
         chart = mirtalughe.open_empty()
         self.refused(18, 0, "the number to drop from an open chart is free or unknown", mirtalughe.open_drop, chart, 0)

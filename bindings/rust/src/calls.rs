@@ -19,6 +19,7 @@ unsafe extern "C" {
     pairs: *mut u8,
     lent: usize,
   ) -> Swept;
+  pub fn mirtalughe_plain_order(list: *const i32, length: usize, pairs: *mut u8, lent: usize) -> Answer;
   pub fn mirtalughe_sweep(list: *const i32, length: usize, budget: u32, pairs: *mut u8, lent: usize)
   -> Swept;
   pub fn mirtalughe_fold(m: u32, h: u32, s: u32, list: *mut i32, lent: usize) -> Answer;

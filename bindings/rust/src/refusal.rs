@@ -23,10 +23,11 @@ pub enum Fault {
   OddBytes = 16,
   Full = 17,
   Unused = 18,
+  Upright = 19,
 }
 
 impl Fault {
-  pub const ALL: [Fault; 16] = [
+  pub const ALL: [Fault; 17] = [
     Fault::FileEnds,
     Fault::Groups,
     Fault::Count,
@@ -43,6 +44,7 @@ impl Fault {
     Fault::OddBytes,
     Fault::Full,
     Fault::Unused,
+    Fault::Upright,
   ];
 
   pub const fn number(self) -> u8 {
@@ -67,6 +69,7 @@ impl Fault {
       Fault::OddBytes => "an odd number of bytes, two a pair",
       Fault::Full => "all 200 places of an open chart are used",
       Fault::Unused => "the number to drop from an open chart is free or unknown",
+      Fault::Upright => "an upright piece, where none may be",
     }
   }
 }

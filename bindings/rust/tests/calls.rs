@@ -108,6 +108,25 @@ fn all_pairs_of_a_list() {
   assert_eq!((pairs_room(0), pairs_room(1), pairs_room(MOST_PIECES)), (0, 0, 2 * MOST_PAIRS));
 }
 
+/// Three pieces through one point: they stand by their numbers there. The pair that meets first is not the one found first.
+#[test]
+fn in_plain_order() {
+  let ties = [[3, 0, 0, 4, 4], [3, 0, 4, 4, 0], [3, 0, 2, 4, 2], [3, 0, 3, 1, 4]].concat();
+  let mut lent = [9; pairs_room(4) + 1];
+  assert_eq!(plain_order(&ties, &mut lent).unwrap(), [[1, 3], [0, 1], [0, 2], [1, 2]]);
+  assert_eq!(lent[8..], [9; 5]);
+  let mut swept = [9; pairs_room(4) + 1];
+  sweep(&ties, u32::MAX, &mut swept).unwrap();
+  assert_eq!(lent, swept);
+  let gap = [[3, 0, 0, 0, 10], [3, -5, 3, 5, 3], [3, -5, 6, 5, 6]].concat();
+  let refused = plain_order(&gap, &mut lent).unwrap_err();
+  assert_eq!((refused.fault, refused.place), (Fault::Upright, 0));
+  assert_eq!(refused.to_string(), "refused 19: an upright piece, where none may be");
+  assert_eq!(plain_order(&gap, &mut lent[..5]).unwrap_err().fault, Fault::Room);
+  assert_eq!(lent, swept);
+  assert_eq!(plain_order(&[], &mut []), Ok(&[][..]));
+}
+
 #[test]
 fn most_pieces() {
   let most = MOST_PIECES as i32;

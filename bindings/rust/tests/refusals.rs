@@ -115,12 +115,13 @@ fn refused_list(list: &[i32], room: usize, fault: Fault, place: usize, told: &st
   assert_eq!(refused.to_string(), told);
   assert_eq!(sweep(list, u32::MAX, &mut lent), Err(refused));
   assert_eq!(full_sweep(list, u32::MAX, &mut lent), Err(refused));
+  assert_eq!(plain_order(list, &mut lent), Err(refused));
   assert!(lent.iter().all(|v| *v == 9));
 }
 
 #[test]
 fn numbers() {
-  assert_eq!(Fault::ALL.map(Fault::number), [1, 2, 3, 4, 5, 6, 7, 8, 9, 12, 13, 14, 15, 16, 17, 18]);
+  assert_eq!(Fault::ALL.map(Fault::number), [1, 2, 3, 4, 5, 6, 7, 8, 9, 12, 13, 14, 15, 16, 17, 18, 19]);
 }
 
 #[test]

@@ -30,9 +30,9 @@ extern "C" {
 
 /* ---- version: of what this header says. MAJOR grows where a program that was right may have to change. */
 #define MIRTALUGHE_VERSION_MAJOR 0
-#define MIRTALUGHE_VERSION_MINOR 11
+#define MIRTALUGHE_VERSION_MINOR 12
 #define MIRTALUGHE_VERSION_PATCH 0
-#define MIRTALUGHE_VERSION "0.11.0"
+#define MIRTALUGHE_VERSION "0.12.0"
 
 /* ---- sizes */
 #define MIRTALUGHE_MOST_PIECES 64 /* of a chart */
@@ -64,7 +64,7 @@ extern "C" {
 
 /* ---- refusals: what `number` is. A file is looked at for ROOM first and then in reading order, EXTRA_BYTES last; a
    list for LIST_LENGTH, COUNT, then piece by piece for KIND, COORDINATE and NO_LENGTH, then for ROOM or, where pairs
-   are given, for ODD_BYTES. The first fault is told. */
+   are given, for ODD_BYTES; mirtalughe_plain_order then for UPRIGHT. The first fault is told. */
 typedef enum {
     /* done. Place: 0. */
     MIRTALUGHE_DONE = 0,
@@ -100,7 +100,9 @@ typedef enum {
     /* all 200 places of an open chart are used. Place in a list: 0. */
     MIRTALUGHE_FULL = 17,
     /* the number to drop from an open chart is free or unknown. Place in a list: 0. */
-    MIRTALUGHE_UNUSED = 18
+    MIRTALUGHE_UNUSED = 18,
+    /* an upright piece, where none may be. Place in a list: 0. */
+    MIRTALUGHE_UPRIGHT = 19
 } mirtalughe_refusal;
 
 /* ---- answers. `number` is one of mirtalughe_refusal, and `place` a byte of the file or the number of a piece. */
@@ -258,6 +260,12 @@ mirtalughe_answer mirtalughe_all_pairs(const int32_t *list, size_t length, uint8
    upright pieces or without. `lent` is at least MIRTALUGHE_PAIRS_ROOM(n). Bytes past the last pair keep their values.
    This is the sweep to call, unless the answers have to be the Rust's. */
 mirtalughe_swept mirtalughe_full_sweep(const int32_t *list, size_t length, uint32_t budget, uint8_t *pairs, size_t lent);
+
+/* The pairs of a list's n pieces that meet, two bytes a pair, the lesser number first, put by their first common point,
+   then by the lesser number, then by the greater. None of the pieces is upright. `lent` is at least
+   MIRTALUGHE_PAIRS_ROOM(n). Bytes past the last pair keep their values. mirtalughe_sweep, once it has ended, leaves the
+   same list. */
+mirtalughe_answer mirtalughe_plain_order(const int32_t *list, size_t length, uint8_t *pairs, size_t lent);
 
 /* Sweeps as the Rust does, step by step. On a chart with no upright piece the answer and the bytes are those of
    mirtalughe_full_sweep, at every budget; with upright pieces some pairs may be missing, and `complete` is false. */

@@ -10,6 +10,7 @@ use Rattle.chart_c.proofs.mirtalughe_fold.Reads as fold
 use Rattle.chart_c.proofs.mirtalughe_meeting.Reads as meeting
 use Rattle.chart_c.proofs.mirtalughe_place.Reads as place
 use Rattle.chart_c.proofs.mirtalughe_all_pairs.Reads as all-pairs
+use Rattle.chart_c.proofs.mirtalughe_plain_order.Reads as plain-order
 use Rattle.chart_c.proofs.mirtalughe_sweep.Reads as sweep
 use Rattle.chart_c.proofs.mirtalughe_full_sweep.Reads as full-sweep
 use Rattle.chart_c.proofs.mirtalughe_check.Reads as check
@@ -44,6 +45,9 @@ place-once κ a x y s t h k = h ∙ sym k
 
 pub all-pairs-once : OneOutcome all-pairs.Post (λ κ s. now (s .1 .0))
 all-pairs-once κ a x y s t h k = (h .0 ∙ sym (k .0), h .1 ∙ sym (k .1))
+
+pub plain-order-once : OneOutcome plain-order.Post (λ κ s. now (s .1 .0))
+plain-order-once κ a x y s t h k = (h .0 ∙ sym (k .0), h .1 ∙ sym (k .1))
 
 pub sweep-once : OneOutcome sweep.Post (λ κ s. now (s .1 .1 .0))
 sweep-once κ a x y s t h k = (h .0 ∙ sym (k .0), h .1 ∙ sym (k .1))

@@ -17,6 +17,8 @@ ghost use Rattle.open_chart.specs.Listing.{openPairsOf};
 ghost use Rattle.open_chart.specs.Listing.{lentAfter as openAfter};
 ghost use Rattle.supplied.specs.Checking.{checkedOf};
 ghost use Rattle.folded_line.specs.Drawing.{Draws};
+ghost use Rattle.plain_order.specs.Plain.{plainOf};
+ghost use Rattle.plain_order.specs.Plain.{lentAfter as orderedAfter};
 ghost use Rattle.chart_c.specs.Sweeps.{sweptAs, sweptFields};
 ghost use Rattle.chart_c.specs.Checks.{checkedAs};
 ghost use Rattle.chart_c.specs.Numbers.{turnNumber, orderNumber, pointOf};
@@ -287,6 +289,14 @@ pub extern "C" fn mirtalughe_all_pairs(list: &[i32], pairs: &mut [u8]) -> Answer
     ensures { λ r. ⌜ (r ≡ allPairsOf (now (list .entry)) (length (now (pairs .entry)))) × (now (pairs .exit) ≡ lentAfter (now (list .entry)) (now (pairs .entry))) ⌝ }
 {
     naive::all_pairs(list, pairs)
+}
+
+// The pairs that meet of a chart without upright pieces, two bytes a pair, in the order of their first common points.
+#[no_mangle]
+pub extern "C" fn mirtalughe_plain_order(list: &[i32], pairs: &mut [u8]) -> Answer
+    ensures { λ r. ⌜ (r ≡ plainOf (now (list .entry)) (length (now (pairs .entry)))) × (now (pairs .exit) ≡ orderedAfter (now (list .entry)) (now (pairs .entry))) ⌝ }
+{
+    plain_order::plain_order(list, pairs)
 }
 
 fn swept_fields(s: Swept, last: Last) -> SweptFields

@@ -47,6 +47,12 @@ pub fn print(programs: &Path) -> Result<()> {
     file_row(name, chart)?;
   }
   println!();
+  println!("| chart | pieces | pairs | plain order, ms | sweep, ms | plain order / sweep |");
+  println!("|---|---|---|---|---|---|");
+  for (name, chart) in &charts {
+    ordered_row(name, chart)?;
+  }
+  println!();
   bench_sweep::print(&charts, programs)?;
   println!();
   bench_full::print(programs)
@@ -116,6 +122,31 @@ fn pairs_row(name: &str, chart: &Chart, plain: &Path) -> Result<()> {
     .map(|r| format!("{r:.1}"))
     .join(" | ");
   println!("| {name} | {n} | {count} | {ms} | {ratios} |");
+  Ok(())
+}
+
+/// The list in plain order, and the sweep that leaves the same.
+fn ordered_row(name: &str, chart: &Chart) -> Result<()> {
+  let n = chart.len();
+  let list = numbers(chart);
+  let (mut ordered, mut swept) = (vec![0; n * (n - 1)], vec![0; n * (n - 1)]);
+  let count = library::plain_order(&list, &mut ordered).count;
+  let steps = library::sweep(&list, u32::MAX, &mut swept).steps as usize;
+  if ordered != swept {
+    return Err(Error::other("the lists differ"));
+  }
+  let calls = 20_000 / steps;
+  let plain = least(BATCHES, calls, || {
+    black_box(library::plain_order(black_box(&list), &mut ordered));
+  });
+  let sweep = least(BATCHES, calls, || {
+    black_box(library::sweep(black_box(&list), u32::MAX, &mut swept));
+  });
+  let [plain_ms, sweep_ms] = [plain, sweep].map(|ns| format!("{:.4}", ns / 1e6));
+  println!(
+    "| {name} | {n} | {count} | {plain_ms} | {sweep_ms} | {:.2} |",
+    plain / sweep
+  );
   Ok(())
 }
 

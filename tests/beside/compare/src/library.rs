@@ -22,6 +22,8 @@ unsafe extern "C" {
     pairs: *mut u8,
     lent: usize,
   ) -> SweptFields;
+  fn mirtalughe_plain_order(list: *const i32, length: usize, pairs: *mut u8, lent: usize)
+  -> Answer;
   fn mirtalughe_sweep(
     list: *const i32,
     length: usize,
@@ -237,6 +239,10 @@ pub fn all_pairs(list: &[i32], pairs: &mut [u8]) -> Answer {
 }
 
 type Sweeps = unsafe extern "C" fn(*const i32, usize, u32, *mut u8, usize) -> SweptFields;
+
+pub fn plain_order(list: &[i32], pairs: &mut [u8]) -> Answer {
+  unsafe { mirtalughe_plain_order(list.as_ptr(), list.len(), pairs.as_mut_ptr(), pairs.len()) }
+}
 
 pub fn sweep(list: &[i32], budget: u32, pairs: &mut [u8]) -> Swept {
   swept(mirtalughe_sweep, list, budget, pairs)

@@ -29,6 +29,7 @@ mod order;
 mod orient;
 mod original;
 mod place;
+mod plain;
 mod record;
 mod refusals;
 mod region;

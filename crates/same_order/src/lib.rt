@@ -1,0 +1,1 @@
+// No code: that the list in plain order is that of a full sweep stands in specs/ and proofs/.
