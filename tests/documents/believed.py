@@ -151,6 +151,11 @@ plain_order/specs/Plain:orderingOf RefusesInOrder
         "full_promises/specs/Sweep:FullPromises,Full",
         LISTS + SWEEP + FULL + PAIRS + "charts/specs/Demand:ListingDue ListingRefusesExactly",
     ),
+    (
+        "3, a piece taken out",
+        "piece_out/specs/Demand:CutIsAChart,PortedWithout,NewWithout,AllPairsWithout,PortedAdds,NewAdds,AllPairsAdds",
+        LISTS + SWEEP + PAIRS + "charts/specs/Demand:ListingDue ListingRefusesExactly",
+    ),
     ("the steps of the sweep", "bentley_ottmann/specs/Swept:sweepOf,lentAfter", LISTS + TEST),
     ("the steps of the new mode", "full_sweep/specs/Swept:sweepOf,lentAfter", LISTS + TEST),
     (

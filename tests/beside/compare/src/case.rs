@@ -5,8 +5,8 @@ use std::fmt::Debug;
 use crate::answers::{Chart, Pair};
 use crate::original::Original;
 use crate::{
-  file, half_line, naive, order, orient, place, plain, refusals, region, segment, supplied, sweep,
-  writing,
+  file, half_line, naive, order, orient, place, plain, refusals, region, removal, segment,
+  supplied, sweep, writing,
 };
 
 pub struct Case {
@@ -47,6 +47,7 @@ pub fn check(chart: &Chart) -> Result<(), String> {
   supplied::compare(&case)?;
   sweep::compare(&case)?;
   plain::compare(&case)?;
+  removal::compare(&case)?;
   refusals::compare(&case)?;
   file::compare(&case)?;
   writing::compare(&case)

@@ -33,6 +33,7 @@ mod plain;
 mod record;
 mod refusals;
 mod region;
+mod removal;
 mod scope;
 mod segment;
 mod shrink;
