@@ -18,6 +18,8 @@ static void check(int line, const char *told, bool right) {
 }
 #define CHECK(fact) check(__LINE__, #fact, fact)
 #define LENGTH(array) (sizeof(array) / sizeof *(array))
+/* the single call that a batch makes of each chart */
+#define SINGLE mirtalughe_full_sweep
 
 static int32_t list[MIRTALUGHE_LIST_ROOM + MIRTALUGHE_PIECE_NUMBERS];
 static uint8_t pairs[MIRTALUGHE_PAIRS_ROOM(MIRTALUGHE_MOST_PIECES) + 1];
@@ -313,6 +315,82 @@ static void answers_of_sweep(void) {
     is_refused(mirtalughe_full_sweep(crossing, LENGTH(crossing), 9, pairs, 1), MIRTALUGHE_ROOM, 0);
 }
 
+/* Of chart i of a batch: its result is what a sweep of it alone says. */
+static void is_alone(mirtalughe_result told, mirtalughe_swept alone) {
+    CHECK(told.number == alone.number);
+    CHECK(told.place == alone.place);
+    CHECK(told.pairs == alone.pairs);
+    CHECK(told.steps == alone.steps);
+    CHECK(told.ended == alone.ended);
+    CHECK(told.complete == alone.complete);
+    CHECK(told.visited == alone.visited);
+    CHECK(told.x == alone.x);
+    CHECK(told.y == alone.y);
+    CHECK(told.d == alone.d);
+}
+
+static void answers_of_sweep_batch(void) {
+    /* Ends below zero at -2, -9. */
+    static const int32_t below[] = {3, -5, -1, -2, -9};
+    static int32_t all[64];
+    static mirtalughe_result results[MIRTALUGHE_MOST_CHARTS + 1];
+    static const size_t lengths[] = {LENGTH(below), LENGTH(crossing), 3, LENGTH(kind), 0, LENGTH(gap)};
+    static const size_t short_by_one[] = {LENGTH(crossing) - 1}, wrapping[] = {SIZE_MAX, LENGTH(crossing) + 1};
+    static const size_t none[MIRTALUGHE_MOST_CHARTS + 1] = {0};
+    const int32_t *lists[] = {below, crossing, kind, kind, NULL, gap};
+    int32_t *end = all;
+    for (size_t i = 0; i < LENGTH(lengths); i++) {
+        if (lengths[i]) memcpy(end, lists[i], lengths[i] * sizeof *all);
+        end += lengths[i];
+    }
+    size_t length = (size_t)(end - all), room = 2 + 2 + MIRTALUGHE_PAIRS_ROOM(3);
+    uint64_t *numbers = (uint64_t *)results;
+    size_t enough = MIRTALUGHE_RESULT_NUMBERS * LENGTH(lengths);
+    CHECK(sizeof(mirtalughe_result) == MIRTALUGHE_RESULT_NUMBERS * sizeof(uint64_t));
+
+    memset(pairs, KEPT, sizeof pairs);
+    memset(results, KEPT, sizeof results);
+    mirtalughe_answer refused[] = {
+        mirtalughe_sweep_batch(all, length, none, LENGTH(none), pairs, 0, numbers, 0),
+        mirtalughe_sweep_batch(all, length - 1, lengths, LENGTH(lengths), pairs, room, numbers, enough),
+        mirtalughe_sweep_batch(crossing, LENGTH(crossing), short_by_one, 1, pairs, room, numbers, enough),
+        mirtalughe_sweep_batch(crossing, LENGTH(crossing), wrapping, 2, pairs, room, numbers, enough),
+        mirtalughe_sweep_batch(all, length, lengths, LENGTH(lengths), pairs, room - 1, numbers, 0),
+        mirtalughe_sweep_batch(all, length, lengths, LENGTH(lengths), pairs, room, numbers, enough - 1),
+    };
+    static const uint8_t due[] = {MIRTALUGHE_CHARTS, MIRTALUGHE_PARTS, MIRTALUGHE_PARTS, MIRTALUGHE_PARTS, MIRTALUGHE_PARTS, MIRTALUGHE_ROOM};
+    for (size_t i = 0; i < LENGTH(refused); i++) {
+        CHECK(refused[i].number == due[i]);
+        CHECK(refused[i].place == 0);
+        CHECK(refused[i].count == 0);
+    }
+    for (size_t i = 0; i < room; i++) CHECK(pairs[i] == KEPT);
+    for (size_t i = 0; i < sizeof results; i++) CHECK(((uint8_t *)results)[i] == KEPT);
+
+    mirtalughe_answer swept = mirtalughe_sweep_batch(all, length, lengths, LENGTH(lengths), pairs, sizeof pairs, numbers, enough);
+    CHECK(swept.number == MIRTALUGHE_DONE);
+    CHECK(swept.place == 0);
+    CHECK(swept.count == LENGTH(lengths));
+    for (size_t i = 0; i < sizeof *results; i++) CHECK(((uint8_t *)(results + LENGTH(lengths)))[i] == KEPT);
+    static uint8_t alone[LENGTH(gap)];
+    int32_t *start = all;
+    size_t at = 0;
+    static const size_t parts[] = {0, 2, 0, 2, 0, MIRTALUGHE_PAIRS_ROOM(3)};
+    for (size_t i = 0; i < LENGTH(lengths); i++) {
+        memset(alone, KEPT, sizeof alone);
+        is_alone(results[i], SINGLE(start, lengths[i], UINT32_MAX, alone, parts[i]));
+        CHECK(memcmp(pairs + at, alone, parts[i]) == 0);
+        start += lengths[i];
+        at += parts[i];
+    }
+    for (; at < sizeof pairs; at++) CHECK(pairs[at] == KEPT);
+    CHECK(results[0].visited == 1 && results[0].x == -2 && results[0].y == -9 && results[0].d == 1);
+    CHECK(results[2].number == MIRTALUGHE_LIST_LENGTH && results[3].number == MIRTALUGHE_KIND && results[3].place == 1);
+    CHECK(results[4].ended == 1 && results[4].steps == 0 && results[4].visited == 0);
+
+    CHECK(mirtalughe_sweep_batch(NULL, 0, none, MIRTALUGHE_MOST_CHARTS, NULL, 0, numbers, MIRTALUGHE_RESULT_NUMBERS * MIRTALUGHE_MOST_CHARTS).count == MIRTALUGHE_MOST_CHARTS);
+}
+
 static void numbers(void) {
     CHECK(mirtalughe_orient(0, 0, 4, 0, 4, 4) == 1);
     CHECK(mirtalughe_orient(0, 0, 4, 4, 4, 0) == -1);
@@ -528,6 +606,7 @@ static void null(void) {
     CHECK(mirtalughe_open_drop(NULL, 0, 0).number == MIRTALUGHE_ROOM);
     CHECK(mirtalughe_open_used(NULL, 0).number == MIRTALUGHE_ROOM);
     CHECK(mirtalughe_open_pairs(NULL, 0, NULL, 0).number == MIRTALUGHE_ROOM);
+    CHECK(mirtalughe_sweep_batch(NULL, 0, NULL, 0, NULL, 0, NULL, 0).number == MIRTALUGHE_DONE);
     CHECK(mirtalughe_sweep(crossing, MIRTALUGHE_PIECE_NUMBERS, UINT32_MAX, NULL, 0).steps == 2);
 }
 
@@ -541,6 +620,7 @@ int main(void) {
     answers_of_all_pairs();
     answers_of_plain_order();
     answers_of_sweep();
+    answers_of_sweep_batch();
     answers_of_check();
     answers_of_fold();
     answers_of_open();

@@ -56,6 +56,13 @@ static void full_sweep(void) {
     wrong |= mirtalughe_full_sweep(list, MIRTALUGHE_LIST_ROOM, UINT32_MAX, pairs, sizeof pairs).pairs != MIRTALUGHE_MOST_PAIRS;
 }
 
+static void sweep_batch(void) {
+    static const size_t lengths[] = {MIRTALUGHE_LIST_ROOM};
+    static uint64_t results[MIRTALUGHE_RESULT_NUMBERS];
+    wrong |= mirtalughe_sweep_batch(list, MIRTALUGHE_LIST_ROOM, lengths, 1, pairs, sizeof pairs, results, MIRTALUGHE_RESULT_NUMBERS).count != 1;
+    wrong |= results[2] != MIRTALUGHE_MOST_PAIRS;
+}
+
 static void check(void) {
     wrong |= mirtalughe_check(list, MIRTALUGHE_LIST_ROOM, pairs, sizeof pairs).says != MIRTALUGHE_ACCEPTED;
 }
@@ -129,6 +136,7 @@ int main(void) {
         {"mirtalughe_full_sweep", full_sweep}, {"mirtalughe_check", check},
         {"mirtalughe_fold", fold},
         {"mirtalughe_check", check},     {"mirtalughe_plain_order", plain_order},
+        {"mirtalughe_full_sweep", full_sweep}, {"mirtalughe_sweep_batch", sweep_batch}, {"mirtalughe_check", check},
         {"mirtalughe_region", region},   {"mirtalughe_half_line", half_line},
         {"mirtalughe_open_empty", open_empty}, {"mirtalughe_open_add", open_add}, {"mirtalughe_open_used", open_used},
         {"mirtalughe_open_pairs", open_pairs}, {"mirtalughe_open_drop", open_drop},

@@ -36,6 +36,8 @@ REFUSALS = {
     12: "an argument out of range",
     13: "mS is above H and m doesn't divide H",
     14: "more than 200 pieces",
+    10: "more than 16 charts in one request",
+    11: "the lengths don't add up to the list, or fewer bytes are lent than the charts need",
     15: "an odd count of numbers or a corner count outside 3 to 64",
     16: "an odd number of bytes, two a pair",
     17: "all 200 places of an open chart are used",

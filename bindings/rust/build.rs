@@ -5,7 +5,8 @@ use std::fs;
 use std::path::PathBuf;
 
 /// The sizes that stand in the header as plain numbers; the others follow from them.
-const SIZES: [&str; 5] = ["MOST_PIECES", "LIMIT", "PIECE_NUMBERS", "MOST_FOLDED", "OPEN_PLACES"];
+const SIZES: [&str; 7] =
+  ["MOST_PIECES", "LIMIT", "PIECE_NUMBERS", "MOST_FOLDED", "OPEN_PLACES", "MOST_CHARTS", "RESULT_NUMBERS"];
 
 fn take_sizes() {
   let header = PathBuf::from(env!("CARGO_MANIFEST_DIR")).join("../../crates/chart_c/include/mirtalughe.h");

@@ -156,6 +156,15 @@ plain_order/specs/Plain:orderingOf RefusesInOrder
         "piece_out/specs/Demand:CutIsAChart,PortedWithout,NewWithout,AllPairsWithout,PortedAdds,NewAdds,AllPairsAdds",
         LISTS + SWEEP + PAIRS + "charts/specs/Demand:ListingDue ListingRefusesExactly",
     ),
+    (
+        "1 and 3, a batch",
+        "batch/specs/Demand:NeedsExactly,RefusesExactly,RefusesWhole,DoneExactly,EachAlone,KeepsTheRest,ReadsAlone "
+        "batch_promises/specs/Sweep:InBatch",
+        LISTS + FULL + """
+batch/specs/Charts:need NeedsExactly
+batch/specs/Batch:Batches what is read
+""",
+    ),
     ("the steps of the sweep", "bentley_ottmann/specs/Swept:sweepOf,lentAfter", LISTS + TEST),
     ("the steps of the new mode", "full_sweep/specs/Swept:sweepOf,lentAfter", LISTS + TEST),
     (

@@ -31,6 +31,7 @@ PIECE_NUMBERS: int = header.size("PIECE_NUMBERS")
 LIST_ROOM: int = header.size("LIST_ROOM")
 FOLD_ROOM: int = header.size("FOLD_ROOM")
 OPEN_NUMBERS: int = header.size("OPEN_NUMBERS")
+RESULT_NUMBERS: int = header.size("RESULT_NUMBERS")
 LONGEST_FILE: int = header.size("LONGEST_FILE")
 MOST_BUDGET: int = 2**32 - 1
 
@@ -232,6 +233,24 @@ def sweep(pieces: Pieces, budget: int = MOST_BUDGET) -> Swept:
 def full_sweep(pieces: Pieces, budget: int = MOST_BUDGET) -> Swept:
     """Sweeps the pieces likewise, and misses none, upright or not."""
     return swept("full_sweep", pieces, budget)
+
+
+def sweep_batch(charts: Iterable[Pieces]) -> list[Swept | Refused]:
+    """Sweeps several charts in one call, each as `full_sweep` would alone; a refused chart disturbs no other."""
+    lists = [numbers_of(pieces) for pieces in charts]
+    parts = [room("PAIRS_ROOM", len(numbers) // PIECE_NUMBERS) for numbers in lists]
+    parts = [part if len(numbers) <= LIST_ROOM else 0 for part, numbers in zip(parts, lists)]
+    data, results = lent(sum(parts)), (ctypes.c_uint64 * (RESULT_NUMBERS * len(lists)))()
+    whole = array(ctypes.c_int32, [number for numbers in lists for number in numbers])
+    call("sweep_batch", whole, array(ctypes.c_size_t, map(len, lists)), data, results)
+    said, at = [], 0
+    for i, part in enumerate(parts):
+        number, place, pairs, steps, ended, complete, visited, x, y, d = results[RESULT_NUMBERS * i : RESULT_NUMBERS * (i + 1)]
+        last = Point(ctypes.c_int64(x).value, ctypes.c_int64(y).value, d) if visited else None
+        listed = pairs_in(data[at : at + part], pairs)
+        said.append(Refused(number, place, "list") if number else Swept(listed, steps, bool(ended), bool(complete), last))
+        at += part
+    return said
 
 
 def plain_order(pieces: Pieces) -> list[tuple[int, int]]:

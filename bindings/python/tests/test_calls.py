@@ -84,6 +84,13 @@ class Calls(unittest.TestCase):
         self.assertEqual(mirtalughe.plain_order(later_first), [(2, 3), (0, 1)])
         self.assertEqual(mirtalughe.plain_order(later_first), mirtalughe.sweep(later_first).pairs)
 
+    def test_batch(self):
+        wrong = [(3, 0, 0, 0, 0)]
+        said = mirtalughe.sweep_batch([FIRST, wrong, [], GAP])
+        self.assertEqual([said[0], *said[2:]], [mirtalughe.full_sweep(chart) for chart in (FIRST, [], GAP)])
+        self.assertEqual((said[1].number, said[1].place), (6, 0))
+        self.assertEqual(mirtalughe.sweep_batch([]), [])
+
     def test_open_chart(self):
         chart = mirtalughe.open_empty()
         self.assertEqual([mirtalughe.open_add(chart, piece) for piece in (*GAP, *FIRST)], [0, 1, 2, 3, 4])

@@ -60,6 +60,9 @@ class Refusals(unittest.TestCase):
     def test_plain_order(self):
         self.refused(19, 0, "an upright piece, where none may be", mirtalughe.plain_order, [SOUND, (3, 0, 0, 0, 1)])
 
+    def test_batch(self):
+        self.refused(10, 0, "more than 16 charts in one request", mirtalughe.sweep_batch, [[SOUND]] * 17)
+
     def test_open_charts(self):
         chart = mirtalughe.open_empty()
         self.refused(18, 0, "the number to drop from an open chart is free or unknown", mirtalughe.open_drop, chart, 0)

@@ -23,6 +23,16 @@ unsafe extern "C" {
   pub fn mirtalughe_sweep(list: *const i32, length: usize, budget: u32, pairs: *mut u8, lent: usize)
   -> Swept;
   pub fn mirtalughe_fold(m: u32, h: u32, s: u32, list: *mut i32, lent: usize) -> Answer;
+  pub fn mirtalughe_sweep_batch(
+    list: *const i32,
+    length: usize,
+    lengths: *const usize,
+    charts: usize,
+    pairs: *mut u8,
+    lent: usize,
+    results: *mut u64,
+    numbers: usize,
+  ) -> Answer;
   pub fn mirtalughe_check(list: *const i32, length: usize, pairs: *const u8, size: usize) -> Checked;
   pub fn mirtalughe_region(outline: *const i32, length: usize, x: i32, y: i32) -> Located;
   pub safe fn mirtalughe_half_line(

@@ -68,6 +68,12 @@ pub const OPEN_PLACES: usize = number(env!("MIRTALUGHE_OPEN_PLACES"));
 /// The numbers of an open chart, five a place.
 pub const OPEN_NUMBERS: usize = PIECE_NUMBERS * OPEN_PLACES;
 
+/// The most charts of a batch.
+pub const MOST_CHARTS: usize = number(env!("MIRTALUGHE_MOST_CHARTS"));
+
+/// The numbers of a chart's result in a batch.
+pub const RESULT_NUMBERS: usize = number(env!("MIRTALUGHE_RESULT_NUMBERS"));
+
 /// kind, x1, y1, x2, y2
 pub type Piece = [i32; PIECE_NUMBERS];
 
@@ -77,6 +83,12 @@ pub type Pair = [u8; 2];
 /// How many bytes are lent at least for the pairs of so many pieces.
 pub const fn pairs_room(pieces: usize) -> usize {
   pieces * pieces.saturating_sub(1)
+}
+
+/// How many bytes of a batch's are the part of a list of so many numbers: none where it is no chart's.
+pub const fn part_room(length: usize) -> usize {
+  let pieces = length / PIECE_NUMBERS;
+  if length % PIECE_NUMBERS == 0 && pieces <= MOST_PIECES { pairs_room(pieces) } else { 0 }
 }
 
 /// Which way three points turn.
@@ -300,6 +312,60 @@ fn told(swept: calls::Swept, lent: &[u8]) -> Result<Swept<'_>, Refusal> {
     ended: swept.ended,
     complete: swept.complete,
     last: swept.visited.then_some(Point { x: swept.x, y: swept.y, d: swept.d }),
+  })
+}
+
+/// Sweeps up to [`MOST_CHARTS`] charts in one call, each to its end. Their lists stand end to end in `list`, and `lengths` has
+/// the count of numbers of each. Each chart has its own part of the lent bytes, [`part_room`] of its length, end to end in
+/// chart order; its answer is that of [`full_sweep`] on it alone, and one that is refused disturbs no other.
+pub fn sweep_batch<'a>(
+  list: &[i32],
+  lengths: &[usize],
+  lent: &'a mut [u8],
+) -> Result<Vec<Result<Swept<'a>, Refusal>>, Refusal> {
+  let mut results = [[0; RESULT_NUMBERS]; MOST_CHARTS];
+  let numbers = results.as_flattened_mut();
+  // SAFETY: all pointers are good for their lengths, and what is lent is borrowed alone.
+  let answer = unsafe {
+    calls::mirtalughe_sweep_batch(
+      list.as_ptr(),
+      list.len(),
+      lengths.as_ptr(),
+      lengths.len(),
+      lent.as_mut_ptr(),
+      lent.len(),
+      numbers.as_mut_ptr(),
+      numbers.len(),
+    )
+  };
+  let count = answer.checked(Given::List)?;
+  let mut rest: &'a [u8] = lent;
+  Ok(
+    lengths
+      .iter()
+      .zip(&results[..count])
+      .map(|(&length, result)| in_batch(result, next(&mut rest, length)))
+      .collect(),
+  )
+}
+
+/// The part of a chart of so many numbers, from the front of what is left.
+fn next<'a>(rest: &mut &'a [u8], length: usize) -> &'a [u8] {
+  let (part, behind) = rest.split_at(part_room(length));
+  *rest = behind;
+  part
+}
+
+/// What the numbers of a chart's result say of its part.
+fn in_batch<'a>(result: &[u64; RESULT_NUMBERS], part: &'a [u8]) -> Result<Swept<'a>, Refusal> {
+  let [number, place, pairs, steps, ended, complete, visited, x, y, d] = *result;
+  refusal::check(number as u8, place as usize, Given::List)?;
+  Ok(Swept {
+    pairs: &part.as_chunks().0[..pairs as usize],
+    steps: steps as u32,
+    ended: ended == 1,
+    complete: complete == 1,
+    last: (visited == 1).then_some(Point { x: x as i64, y: y as i64, d }),
   })
 }
 

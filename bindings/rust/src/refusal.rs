@@ -16,6 +16,8 @@ pub enum Fault {
   ExtraBytes = 7,
   Room = 8,
   ListLength = 9,
+  Charts = 10,
+  Parts = 11,
   Argument = 12,
   Uneven = 13,
   TooMany = 14,
@@ -27,7 +29,7 @@ pub enum Fault {
 }
 
 impl Fault {
-  pub const ALL: [Fault; 17] = [
+  pub const ALL: [Fault; 19] = [
     Fault::FileEnds,
     Fault::Groups,
     Fault::Count,
@@ -37,6 +39,8 @@ impl Fault {
     Fault::ExtraBytes,
     Fault::Room,
     Fault::ListLength,
+    Fault::Charts,
+    Fault::Parts,
     Fault::Argument,
     Fault::Uneven,
     Fault::TooMany,
@@ -62,6 +66,8 @@ impl Fault {
       Fault::ExtraBytes => "bytes after the last piece",
       Fault::Room => "lent room too small",
       Fault::ListLength => "a list's length is no multiple of five or, in a pair call, is not ten",
+      Fault::Charts => "more than 16 charts in one request",
+      Fault::Parts => "the lengths don't add up to the list, or fewer bytes are lent than the charts need",
       Fault::Argument => "an argument out of range",
       Fault::Uneven => "mS is above H and m doesn't divide H",
       Fault::TooMany => "more than 200 pieces",

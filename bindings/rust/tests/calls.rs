@@ -314,3 +314,22 @@ fn an_open_chart() {
   let mut lent = [0; 2];
   assert_eq!(OpenChart::from(numbers).all_pairs(&mut lent), Ok(&[[199, 198]][..]));
 }
+
+/// Charts that are refused among good ones: each answer and each part is that of a sweep alone.
+#[test]
+fn batch() {
+  let below = vec![3, -5, -1, -2, -9];
+  let wrong = two([3, 0, 0, 4, 4], [4, 0, 0, 1, 1]);
+  let charts = [FIRST.to_vec(), vec![1, 2, 3], wrong, vec![], below, FIRST.to_vec()];
+  let lengths = charts.each_ref().map(Vec::len);
+  let mut lent = [9; 7];
+  let told = sweep_batch(&charts.concat(), &lengths, &mut lent).unwrap();
+  assert_eq!(told.len(), charts.len());
+  for (chart, told) in charts.iter().zip(&told) {
+    let mut alone = vec![9; part_room(chart.len())];
+    assert_eq!(*told, full_sweep(chart, u32::MAX, &mut alone), "{chart:?}");
+  }
+  assert_eq!(told[4].unwrap().last, Some(Point { x: -2, y: -9, d: 1 }));
+  assert_eq!(lent, [0, 1, 9, 9, 0, 1, 9]);
+  assert_eq!(sweep_batch(&[], &[], &mut []), Ok(vec![]));
+}

@@ -120,8 +120,31 @@ fn refused_list(list: &[i32], room: usize, fault: Fault, place: usize, told: &st
 }
 
 #[test]
+fn batches() {
+  let charts = "refused 10: more than 16 charts in one request";
+  let parts =
+    "refused 11: the lengths don't add up to the list, or fewer bytes are lent than the charts need";
+  let two = [SOUND; 2].concat();
+  let wrong: [(&[usize], usize, Fault, &str); 6] = [
+    (&[0; MOST_CHARTS + 1], 2, Fault::Charts, charts),
+    (&[5], 2, Fault::Parts, parts),
+    (&[10, 5], 2, Fault::Parts, parts),
+    (&[usize::MAX, 11], 2, Fault::Parts, parts),
+    (&[], 2, Fault::Parts, parts),
+    (&[10], 1, Fault::Parts, parts),
+  ];
+  for (lengths, room, fault, told) in wrong {
+    let mut lent = vec![9; room];
+    let refused = sweep_batch(&two, lengths, &mut lent).unwrap_err();
+    assert_eq!(refused, Refusal { fault, place: 0, given: Given::List }, "{lengths:?}");
+    assert_eq!(refused.to_string(), told);
+    assert!(lent.iter().all(|b| *b == 9));
+  }
+}
+
+#[test]
 fn numbers() {
-  assert_eq!(Fault::ALL.map(Fault::number), [1, 2, 3, 4, 5, 6, 7, 8, 9, 12, 13, 14, 15, 16, 17, 18, 19]);
+  assert_eq!(Fault::ALL.map(Fault::number), [1, 2, 3, 4, 5, 6, 7, 8, 9, 10, 11, 12, 13, 14, 15, 16, 17, 18, 19]);
 }
 
 #[test]

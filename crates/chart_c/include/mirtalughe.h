@@ -5,8 +5,8 @@
    add 1 if the first end is included, 2 if the second is. Points are ordered by x, then y; the lesser end of a piece
    is its min, the other its max. A piece is upright when both its x are equal.
 
-   Lengths.     `size` counts bytes. `length`, and the `lent` beside an int32_t *, count numbers and not bytes; the
-                `lent` beside a uint8_t * counts bytes. A `count` or `pairs` that is returned counts pieces or pairs.
+   Lengths.     `size` counts bytes. `length`, `numbers`, and the `lent` beside an int32_t *, count numbers and not bytes;
+                the `lent` beside a uint8_t * counts bytes. A `count` or `pairs` that is returned counts pieces or pairs.
    Pointers.    Each is good for the length beside it, aligned as its type. NULL is allowed where that length is 0.
    Overlap.     What is lent (the pointers without const) overlaps nothing else that the call is given, and nobody else
                 reads or writes it during the call. What is const nobody writes during the call; it may be one list in
@@ -30,9 +30,9 @@ extern "C" {
 
 /* ---- version: of what this header says. MAJOR grows where a program that was right may have to change. */
 #define MIRTALUGHE_VERSION_MAJOR 0
-#define MIRTALUGHE_VERSION_MINOR 13
+#define MIRTALUGHE_VERSION_MINOR 14
 #define MIRTALUGHE_VERSION_PATCH 0
-#define MIRTALUGHE_VERSION "0.13.0"
+#define MIRTALUGHE_VERSION "0.14.0"
 
 /* ---- sizes */
 #define MIRTALUGHE_MOST_PIECES 64 /* of a chart */
@@ -58,6 +58,10 @@ extern "C" {
 /* An open chart: its places, and the numbers to lend for it. */
 #define MIRTALUGHE_OPEN_PLACES 200
 #define MIRTALUGHE_OPEN_NUMBERS (MIRTALUGHE_PIECE_NUMBERS * MIRTALUGHE_OPEN_PLACES)
+
+/* Of a batch: the most charts, and the numbers that a chart's result is. */
+#define MIRTALUGHE_MOST_CHARTS 16
+#define MIRTALUGHE_RESULT_NUMBERS 10
 
 /* No sweep of the library takes more steps; UINT32_MAX as a budget is enough for all. */
 #define MIRTALUGHE_MOST_STEPS (2 * MIRTALUGHE_MOST_PIECES + MIRTALUGHE_MOST_PAIRS)
@@ -87,6 +91,10 @@ typedef enum {
     MIRTALUGHE_ROOM = 8,
     /* a list's length is no multiple of five or, in a pair call, is not ten. Place in a list: 0. */
     MIRTALUGHE_LIST_LENGTH = 9,
+    /* more than 16 charts in one request. Place in a list: 0. */
+    MIRTALUGHE_CHARTS = 10,
+    /* the lengths don't add up to the list, or fewer bytes are lent than the charts need. Place in a list: 0. */
+    MIRTALUGHE_PARTS = 11,
     /* an argument out of range. Place in a list: 0. */
     MIRTALUGHE_ARGUMENT = 12,
     /* mS is above H and m doesn't divide H. Place in a list: 0. */
@@ -108,6 +116,7 @@ typedef enum {
 /* ---- answers. `number` is one of mirtalughe_refusal, and `place` a byte of the file or the number of a piece. */
 
 /* `count` pieces read, drawn or standing on an open chart, bytes written, or pairs listed. */
+/* `count` pieces read, bytes written, pairs listed, or charts swept. */
 typedef struct {
     uint8_t number;
     size_t place;
@@ -167,6 +176,13 @@ typedef struct {
     int64_t x, y;
     uint64_t d;
 } mirtalughe_swept;
+
+/* A chart's result in a batch: what mirtalughe_swept says, each in 64 bits. MIRTALUGHE_RESULT_NUMBERS numbers, no gaps. */
+typedef struct {
+    uint64_t number, place, pairs, steps, ended, complete, visited;
+    int64_t x, y;
+    uint64_t d;
+} mirtalughe_result;
 
 /* What is said of a list of pairs, what `first` and `second` are then, and the faults of an entry: of several it has the
    first. Refused, `says` is 0. */
@@ -270,6 +286,16 @@ mirtalughe_answer mirtalughe_plain_order(const int32_t *list, size_t length, uin
 /* Sweeps as the Rust does, step by step. On a chart with no upright piece the answer and the bytes are those of
    mirtalughe_full_sweep, at every budget; with upright pieces some pairs may be missing, and `complete` is false. */
 mirtalughe_swept mirtalughe_sweep(const int32_t *list, size_t length, uint32_t budget, uint8_t *pairs, size_t lent);
+
+/* Sweeps up to MIRTALUGHE_MOST_CHARTS charts in one call, each to its end, and returns their count. Their lists stand end
+   to end in `list`; `lengths` has the count of numbers of each. Each chart has its own part of `pairs`, end to end in chart
+   order, of MIRTALUGHE_PAIRS_ROOM(n) bytes for n pieces, and of none where its length is no multiple of
+   MIRTALUGHE_PIECE_NUMBERS or it has too many pieces; and its own result, MIRTALUGHE_RESULT_NUMBERS of the numbers lent:
+   an array of mirtalughe_result, cast to uint64_t *, takes them. Part and result are what mirtalughe_full_sweep with UINT32_MAX
+   steps leaves and says of the chart alone; a chart that is refused disturbs no other. Bytes past the last part and numbers
+   past the last result keep their values. Refusals of the whole call, before any chart is looked at: MIRTALUGHE_CHARTS, then
+   MIRTALUGHE_PARTS, then MIRTALUGHE_ROOM where fewer than MIRTALUGHE_RESULT_NUMBERS numbers a chart are lent. */
+mirtalughe_answer mirtalughe_sweep_batch(const int32_t *list, size_t length, const size_t *lengths, size_t charts, uint8_t *pairs, size_t lent, uint64_t *results, size_t numbers);
 
 /* Holds a list of pairs, `size` bytes, two a pair in any order, to a list's pieces: whether it names each pair that meets
    once, in either number order, and if not, where it is wrong. A list of pairs may be of any length. Nothing is lent. */

@@ -1,5 +1,7 @@
 -- Each call's contract allows one answer, and one content of what is lent.
 use mathlib.Core.Path.{sym, _∙_}
+use mathlib.Core.List.{List}
+use Prim.Native.Nat.{ℕ}
 use denote.Ref.{now}
 use Rattle.charts.specs.Outcome.{OneResult, OneOutcome}
 use Rattle.chart_c.proofs.mirtalughe_orient.Reads as orient
@@ -12,6 +14,7 @@ use Rattle.chart_c.proofs.mirtalughe_place.Reads as place
 use Rattle.chart_c.proofs.mirtalughe_all_pairs.Reads as all-pairs
 use Rattle.chart_c.proofs.mirtalughe_plain_order.Reads as plain-order
 use Rattle.chart_c.proofs.mirtalughe_sweep.Reads as sweep
+use Rattle.chart_c.proofs.mirtalughe_sweep_batch.Reads as sweep-batch
 use Rattle.chart_c.proofs.mirtalughe_full_sweep.Reads as full-sweep
 use Rattle.chart_c.proofs.mirtalughe_check.Reads as check
 use Rattle.chart_c.proofs.mirtalughe_region.Reads as region
@@ -54,6 +57,10 @@ sweep-once κ a x y s t h k = (h .0 ∙ sym (k .0), h .1 ∙ sym (k .1))
 
 pub full-sweep-once : OneOutcome full-sweep.Post (λ κ s. now (s .1 .1 .0))
 full-sweep-once κ a x y s t h k = (h .0 ∙ sym (k .0), h .1 ∙ sym (k .1))
+
+pub sweep-batch-once : OneOutcome sweep-batch.Post {M = List ℕ × List ℕ} (λ κ s. (now (s .1 .1 .0), now (s .1 .1 .1 .0)))
+sweep-batch-once κ a x y s t h k =
+    (h .answer ∙ sym (k .answer), λ i. ((h .bytes ∙ sym (k .bytes)) i, (h .told-is ∙ sym (k .told-is)) i))
 
 pub check-once : OneResult check.Post
 check-once κ a x y s t h k = h ∙ sym k

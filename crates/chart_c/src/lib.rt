@@ -19,6 +19,7 @@ ghost use Rattle.supplied.specs.Checking.{checkedOf};
 ghost use Rattle.folded_line.specs.Drawing.{Draws};
 ghost use Rattle.plain_order.specs.Plain.{plainOf};
 ghost use Rattle.plain_order.specs.Plain.{lentAfter as orderedAfter};
+ghost use Rattle.batch.specs.Batch.{Batches};
 ghost use Rattle.chart_c.specs.Sweeps.{sweptAs, sweptFields};
 ghost use Rattle.chart_c.specs.Checks.{checkedAs};
 ghost use Rattle.chart_c.specs.Numbers.{turnNumber, orderNumber, pointOf};
@@ -348,6 +349,19 @@ pub extern "C" fn mirtalughe_full_sweep(list: &[i32], budget: u32, pairs: &mut [
     let swept = full_sweep::sweep(list, budget, pairs);
     let last = swept.last;
     swept_fields(swept, last)
+}
+
+// Sweeps each of several charts with the largest budget; their lists stand end to end.
+#[no_mangle]
+pub extern "C" fn mirtalughe_sweep_batch(
+    list: &[i32],
+    lengths: &[usize],
+    pairs: &mut [u8],
+    results: &mut [u64],
+) -> Answer
+    ensures { λ r. ⌜ Batches (now (list .entry)) (now (lengths .entry)) (now (pairs .entry)) (now (results .entry)) r (now (pairs .exit)) (now (results .exit)) ⌝ }
+{
+    batch::sweep_batch(list, lengths, pairs, results)
 }
 
 fn checked_fields(checked: Checked) -> CheckedFields

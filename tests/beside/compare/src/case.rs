@@ -5,7 +5,7 @@ use std::fmt::Debug;
 use crate::answers::{Chart, Pair};
 use crate::original::Original;
 use crate::{
-  file, half_line, naive, order, orient, place, plain, refusals, region, removal, segment,
+  batch, file, half_line, naive, order, orient, place, plain, refusals, region, removal, segment,
   supplied, sweep, writing,
 };
 
@@ -48,6 +48,7 @@ pub fn check(chart: &Chart) -> Result<(), String> {
   sweep::compare(&case)?;
   plain::compare(&case)?;
   removal::compare(&case)?;
+  batch::compare(&case)?;
   refusals::compare(&case)?;
   file::compare(&case)?;
   writing::compare(&case)

@@ -31,6 +31,16 @@ unsafe extern "C" {
     pairs: *mut u8,
     lent: usize,
   ) -> SweptFields;
+  fn mirtalughe_sweep_batch(
+    list: *const i32,
+    length: usize,
+    lengths: *const usize,
+    charts: usize,
+    pairs: *mut u8,
+    lent: usize,
+    results: *mut u64,
+    numbers: usize,
+  ) -> Answer;
   fn mirtalughe_check(list: *const i32, length: usize, pairs: *const u8, size: usize) -> Checked;
   fn mirtalughe_region(outline: *const i32, length: usize, x: i32, y: i32) -> Located;
   safe fn mirtalughe_half_line(
@@ -272,6 +282,34 @@ fn swept(call: Sweeps, list: &[i32], budget: u32, pairs: &mut [u8]) -> Swept {
     complete: told.complete,
     last: told.visited.then_some(point),
   }
+}
+
+/// The numbers of a chart's result in a batch.
+pub const RESULT_NUMBERS: usize = 10;
+
+pub fn sweep_batch(
+  list: &[i32],
+  lengths: &[usize],
+  pairs: &mut [u8],
+  results: &mut [u64],
+) -> Answer {
+  unsafe {
+    mirtalughe_sweep_batch(
+      list.as_ptr(),
+      list.len(),
+      lengths.as_ptr(),
+      lengths.len(),
+      pairs.as_mut_ptr(),
+      pairs.len(),
+      results.as_mut_ptr(),
+      results.len(),
+    )
+  }
+}
+
+/// The single call that a batch makes of each chart.
+pub fn single(list: &[i32], pairs: &mut [u8]) -> Swept {
+  full_sweep(list, u32::MAX, pairs)
 }
 
 /// What is said of a supplier's list, or why the call is refused. Fields that are not in use are zero.

@@ -8,6 +8,7 @@
 //!   compare bench FOLDER       how long calls take, beside the Rust and the programs in FOLDER
 
 mod answers;
+mod batch;
 mod bench;
 mod bench_full;
 mod bench_sweep;

@@ -1,0 +1,111 @@
+-- The single call keeps the length of the bytes lent to it, since what it lists has room there, and the last point that it
+-- tells fits 64 bits.
+-- Assumes nothing.
+use mathlib.Core.Path.{_≡_, refl, sym, ap, _∙_}
+use mathlib.Core.Logic.{_≢_}
+use mathlib.Core.List.{List, [], _∷_, _++_, map}
+use mathlib.Core.List.{List·Memᴰ as In, List·Memᴰ·head as here, List·Memᴰ·tail as there}
+use mathlib.Core.Option.{Option, none, some}
+use Prim.Native.Nat.{ℕ, zero, suc, _*_, _^_, _≤_, _<_}
+use native.Mathlib.Omega.{arith}
+use lib.IntN.{ℤ, pos, negsuc, natAbs}
+use lib.ListN.{length, take, drop, length-append, length-drop, length-map}
+use lib.Signed.{mag}
+use Rattle.fractions.specs.Point.{Bounded}
+use Rattle.fractions.specs.declared.Point.{Point}
+use Rattle.charts.specs.Chart.{verdictOf}
+use Rattle.charts.specs.Answer.{room, listingOf}
+use Rattle.charts.specs.Piece.{pieceAt}
+use Rattle.charts.specs.declared.Verdict.{Verdict}
+use Rattle.charts.specs.declared.Verdict.the-variants.{Accepted, Refused}
+use Rattle.charts.proofs.Room.{room-more, room-none}
+use Rattle.charts.proofs.Listing.{listing-goes}
+use Rattle.naive.specs.Pairs.{bytes, over}
+use Rattle.naive.proofs.Rows.{bytes-length}
+use Rattle.sweep.specs.Lists.{Pair, upto, pairs, last-of, Pairwise}
+use Rattle.sweep.specs.Chart.{Chart}
+use Rattle.sweep.specs.Sought.{all}
+use Rattle.sweep.specs.Demand.{Pieces}
+use Rattle.sweep.proofs.Pairs.{upto-length}
+use Rattle.sweep.proofs.Occurring.{all-in}
+use Rattle.ported_arrays.proofs.Distinct.{distinct-fit}
+use Rattle.full_order.specs.Finer.{finer}
+use Rattle.full_steps.specs.Steps.{answer}
+use Rattle.full_order.proofs.Modes.{list-full-sweeps}
+use Rattle.sweep_geometry.proofs.Supply.{reduced}
+use Rattle.sweep_geometry.proofs.Accepted.{list-proper}
+use Rattle.bentley_ottmann.specs.Swept.{asLast}
+use Rattle.full_sweep.specs.Swept.{sweptBy, sweptFor, sweepOf, listedOver, lentFor, lentAfter}
+use Rattle.batch.specs.Single.{largest, sweptAlone, leftAlone}
+use Rattle.batch.proofs.Reading.{FitsLast}
+
+-- ---- pairs of n pieces, each once, have room
+pairs-length : (l : List ℕ) → 2 * length (pairs l) ≡ room (length l)
+unfolding pairs
+pairs-length [] = omega (arith, room-none)
+pairs-length (i ∷ l) = omega (arith, room-more (length l), length-append (map (λ j. (i, j)) l) (pairs l), length-map {B = Pair} l (λ j. (i, j)), pairs-length l)
+
+once-fit : (C : Chart) (l : List Pair) → Pairwise (λ q r. q ≢ r) l → ((q : Pair) → In q l → Pieces C q) → 2 * length l ≤ room (C .n)
+unfolding all
+once-fit C l once only =
+    omega (arith, distinct-fit l (all C) once (λ q m. all-in C q (only q m)), pairs-length (upto (C .n)), ap room (upto-length (C .n)))
+
+-- the last of a list is in it
+last-in : {A : Type 0} (l : List A) (p : A) → last-of l ≡ some p → In p l
+unfolding last-of
+last-in [] p h = let z : _≡_ {A = ℕ} 0 1 = cc in absurd (omega arith)
+last-in (x ∷ []) p h = let e : p ≡ x = cc in here e
+last-in (x ∷ y ∷ l) p h = there (last-in (y ∷ l) p h)
+
+fits-as-last : (o : Option Point) → ((p : Point) → o ≡ some p → Bounded p) → FitsLast (asLast o)
+fits-as-last none h = tt
+fits-as-last (some p) h = let b = h p refl in (small (p .x) (b .x-small), small (p .y) (b .y-small))
+  where
+    small : (z : ℤ) → natAbs z < 2 ^ 48 → mag z < 9223372036854775808
+    small (pos n) h = omega arith
+    small (negsuc n) h = omega arith
+
+-- what is taken of a list is in it
+taken-in : {A : Type 0} (m : ℕ) (l : List A) (p : A) → In p (take m l) → In p l
+taken-in zero l p h = elim h [ ]
+taken-in (suc m) [] p h = elim h [ ]
+taken-in (suc m) (x ∷ l) p (here e) = here e
+taken-in (suc m) (x ∷ l) p (there h) = there (taken-in m l p h)
+
+-- ---- the run's
+listed-fit : (list : List ℤ) (n budget : ℕ) → verdictOf list ≡ Accepted n → 2 * length ((answer (finer n (pieceAt list)) budget) .listed) ≤ room n
+listed-fit list n budget e =
+    let P = list-full-sweeps list n e in
+    once-fit (finer n (pieceAt list)) _ (P .lists-once budget) (λ q m. (P .lists-exactly budget q .0 m) .0)
+
+-- the last point is an end or a crossing
+last-bounded : (list : List ℤ) (n budget : ℕ) → verdictOf list ≡ Accepted n → (p : Point) → (answer (finer n (pieceAt list)) budget) .last ≡ some p → Bounded p
+last-bounded list n budget e p h =
+    let P = list-full-sweeps list n e in
+    let seen = rw (P .visits-in-order .first-of budget) at (last-in _ p (sym (P .last-visited budget) ∙ h)) in
+    (reduced n (pieceAt list) (list-proper list n e) _ p (P .visits-in-order .all-of p .0 (taken-in budget _ p seen))) .1
+
+-- ---- over lent bytes
+over-length : (l : List Pair) (lent : List ℕ) → 2 * length l ≤ length lent → length (over (bytes l) lent) ≡ length lent
+unfolding over
+over-length l lent h = length-append (bytes l) (drop (length (bytes l)) lent) ∙ omega (arith, length-drop (length (bytes l)) lent, bytes-length l)
+
+kept : (list : List ℤ) (budget : ℕ) (lent : List ℕ) (v : Verdict) → listingOf list (length lent) ≡ v → length (lentFor list budget lent v) ≡ length lent
+unfolding listedOver
+kept list budget lent (Accepted n) e =
+    let g = listing-goes list (length lent) n e in
+    over-length _ lent (omega (arith, listed-fit list n budget (g .0), g .1))
+kept list budget lent (Refused k p) e = refl
+
+pub keeps-length : (list : List ℤ) (lent : List ℕ) → length (leftAlone list lent) ≡ length lent
+unfolding leftAlone lentAfter
+keeps-length list lent = kept list largest lent (listingOf list (length lent)) refl
+
+told-fits : (list : List ℤ) (budget lent : ℕ) (v : Verdict) → listingOf list lent ≡ v → FitsLast ((sweptFor list budget v) .last)
+unfolding sweptBy
+told-fits list budget lent (Accepted n) e = fits-as-last _ (last-bounded list n budget (listing-goes list lent n e .0))
+told-fits list budget lent (Refused k p) e = tt
+
+pub fits-last : (list : List ℤ) (lent : List ℕ) → FitsLast ((sweptAlone list lent) .last)
+unfolding sweptAlone sweepOf
+fits-last list lent = told-fits list largest (length lent) (listingOf list (length lent)) refl

@@ -1,0 +1,1 @@
+// What is promised of each chart of a batch stands in specs/.
