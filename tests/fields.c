@@ -263,6 +263,7 @@ static void is_refused(mirtalughe_swept swept, mirtalughe_refusal number, size_t
     CHECK(swept.steps == 0);
     CHECK(!swept.ended && !swept.complete && !swept.visited);
     CHECK(swept.x == 0 && swept.y == 0 && swept.d == 0);
+    CHECK(swept.examined == 0);
 }
 
 static void answers_of_sweep(void) {
@@ -273,6 +274,7 @@ static void answers_of_sweep(void) {
     CHECK(none.complete);
     CHECK(!none.visited);
     CHECK(none.x == 0 && none.y == 0 && none.d == 0);
+    CHECK(none.examined == 0);
     CHECK(pairs[0] == KEPT);
 
     /* (0,0) (0,5) (5/3,10/3) (3,6) (5,0) */
@@ -287,6 +289,7 @@ static void answers_of_sweep(void) {
     CHECK(three.x == 5);
     CHECK(three.y == 10);
     CHECK(three.d == 3);
+    CHECK(three.examined == 2);
     CHECK(pairs[0] == 0 && pairs[1] == 1 && pairs[2] == KEPT);
 
     mirtalughe_swept upright = mirtalughe_sweep(gap, LENGTH(gap), UINT32_MAX, pairs, MIRTALUGHE_PAIRS_ROOM(3));
@@ -297,6 +300,7 @@ static void answers_of_sweep(void) {
     CHECK(!upright.complete);
     CHECK(upright.visited);
     CHECK(upright.x == 5 && upright.y == 6 && upright.d == 1);
+    CHECK(upright.examined == 8);
 
     memset(pairs, KEPT, sizeof pairs);
     mirtalughe_swept full = mirtalughe_full_sweep(gap, LENGTH(gap), UINT32_MAX, pairs, MIRTALUGHE_PAIRS_ROOM(3));
@@ -307,6 +311,7 @@ static void answers_of_sweep(void) {
     CHECK(full.complete);
     CHECK(full.visited);
     CHECK(full.x == 5 && full.y == 6 && full.d == 1);
+    CHECK(full.examined == 0);
     CHECK(pairs[0] == 0 && pairs[1] == 1 && pairs[2] == 0 && pairs[3] == 2 && pairs[4] == KEPT);
 
     is_refused(mirtalughe_sweep(no_length, LENGTH(no_length), 9, pairs, 2), MIRTALUGHE_NO_LENGTH, 1);

@@ -98,13 +98,15 @@ class Along(NamedTuple):
 
 class Swept(NamedTuple):
     """The pairs listed, the lesser number first; the steps done; whether no point is left; whether a sweep that has ended has
-    listed every pair that meets (of `sweep`: no piece is upright); the last point visited."""
+    listed every pair that meets (of `sweep`: no piece is upright); the last point visited; how many adjacent pairs `sweep`
+    examined, skipped ones too."""
 
     pairs: list[tuple[int, int]]
     steps: int
     ended: bool
     complete: bool
     last: Point | None
+    examined: int
 
 
 class Accepted(NamedTuple):
@@ -221,7 +223,7 @@ def swept(name: str, pieces: Pieces, budget: int) -> Swept:
     data = lent(room("PAIRS_ROOM", len(numbers) // PIECE_NUMBERS))
     said = call(name, numbers, budget, data)
     last = Point(said.x, said.y, said.d) if said.visited else None
-    return Swept(pairs_in(data, said.pairs), said.steps, said.ended, said.complete, last)
+    return Swept(pairs_in(data, said.pairs), said.steps, said.ended, said.complete, last, said.examined)
 
 
 def sweep(pieces: Pieces, budget: int = MOST_BUDGET) -> Swept:
@@ -248,7 +250,7 @@ def sweep_batch(charts: Iterable[Pieces]) -> list[Swept | Refused]:
         number, place, pairs, steps, ended, complete, visited, x, y, d = results[RESULT_NUMBERS * i : RESULT_NUMBERS * (i + 1)]
         last = Point(ctypes.c_int64(x).value, ctypes.c_int64(y).value, d) if visited else None
         listed = pairs_in(data[at : at + part], pairs)
-        said.append(Refused(number, place, "list") if number else Swept(listed, steps, bool(ended), bool(complete), last))
+        said.append(Refused(number, place, "list") if number else Swept(listed, steps, bool(ended), bool(complete), last, 0))
         at += part
     return said
 

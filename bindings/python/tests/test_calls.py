@@ -112,9 +112,10 @@ class Calls(unittest.TestCase):
         for budget in range(7):
             steps, pairs = min(budget, 5), [(0, 1)] if budget >= 3 else []
             last = Point(*visited[steps - 1], 1) if steps else None
-            self.assertEqual(mirtalughe.full_sweep(FIRST, budget), Swept(pairs, steps, budget >= 5, True, last))
-            self.assertEqual(mirtalughe.sweep(FIRST, budget), mirtalughe.full_sweep(FIRST, budget))
-        self.assertEqual(mirtalughe.sweep([]), Swept([], 0, True, True, None))
+            self.assertEqual(mirtalughe.full_sweep(FIRST, budget), Swept(pairs, steps, budget >= 5, True, last, 0))
+            self.assertEqual(mirtalughe.sweep(FIRST, budget)._replace(examined=0), mirtalughe.full_sweep(FIRST, budget))
+        self.assertLessEqual(mirtalughe.sweep(FIRST).examined, 2 * 5)
+        self.assertEqual(mirtalughe.sweep([]), Swept([], 0, True, True, None, 0))
         third = mirtalughe.sweep([(3, 0, 0, 1, 1), (3, 0, 1, 2, 0)], 3).last
         self.assertEqual((third, third.exact()), (Point(2, 2, 3), (2 / Point(3, 0, 1).exact()[0],) * 2))
 

@@ -136,6 +136,7 @@ pub struct Swept {
   pub x: i64,
   pub y: i64,
   pub d: u64,
+  pub examined: u64,
 }
 
 #[repr(C)]

@@ -157,6 +157,9 @@ pub struct Swept<'a> {
   pub complete: bool,
   /// The last point visited.
   pub last: Option<Point>,
+  /// Of [`sweep`], how many adjacent pairs were examined, skipped ones too, in all steps done: at most 2(n - 1) a step for
+  /// n pieces. [`full_sweep`] does not count: 0.
+  pub examined: u64,
 }
 
 /// What is wrong with an entry of a supplier's list; of several the first.
@@ -280,7 +283,7 @@ pub fn full_sweep<'a>(list: &[i32], budget: u32, lent: &'a mut [u8]) -> Result<S
   told(swept, lent)
 }
 
-/// Sweeps as the Rust does, step by step. Where no piece is upright the answer is that of [`full_sweep`], at every budget;
+/// Sweeps as the Rust does, step by step. Where no piece is upright the answer is that of [`full_sweep`], at every budget, but for the pairs examined;
 /// with upright pieces some pairs may be missing, and it is not complete.
 /// Lists the pairs of a chart's pieces that meet, lesser number first, in the order of their first common points, then of the
 /// lesser number, then of the greater. None of the pieces may be upright. At least [`pairs_room`] of its pieces is to be lent;
@@ -312,6 +315,7 @@ fn told(swept: calls::Swept, lent: &[u8]) -> Result<Swept<'_>, Refusal> {
     ended: swept.ended,
     complete: swept.complete,
     last: swept.visited.then_some(Point { x: swept.x, y: swept.y, d: swept.d }),
+    examined: swept.examined,
   })
 }
 
@@ -366,6 +370,7 @@ fn in_batch<'a>(result: &[u64; RESULT_NUMBERS], part: &'a [u8]) -> Result<Swept<
     ended: ended == 1,
     complete: complete == 1,
     last: (visited == 1).then_some(Point { x: x as i64, y: y as i64, d }),
+    examined: 0,
   })
 }
 

@@ -146,12 +146,13 @@ fn sweep_step_by_step() {
     let mut lent = [9; 3];
     let swept = sweep(&FIRST, budget, &mut lent).unwrap();
     let mut full = [9; 3];
-    assert_eq!(full_sweep(&FIRST, budget, &mut full), Ok(swept));
+    assert_eq!(full_sweep(&FIRST, budget, &mut full), Ok(Swept { examined: 0, ..swept }));
     assert_eq!(full, if budget < 3 { [9; 3] } else { [0, 1, 9] });
     let steps = budget.min(5);
     let last = steps.checked_sub(1).map(|i| visited[i as usize]).map(|(x, y)| Point { x, y, d: 1 });
     let pairs: &[Pair] = if budget < 3 { &[] } else { &[[0, 1]] };
-    assert_eq!(swept, Swept { pairs, steps, ended: budget >= 5, complete: true, last });
+    let examined = [0, 0, 1, 2, 2, 2, 2][budget as usize];
+    assert_eq!(swept, Swept { pairs, steps, ended: budget >= 5, complete: true, last, examined });
     assert_eq!(lent, if budget < 3 { [9; 3] } else { [0, 1, 9] });
   }
 }
@@ -161,7 +162,7 @@ fn sweep_of_a_fraction_and_of_nothing() {
   let mut lent = [0; 2];
   let thirds = two([3, 0, 0, 1, 1], [3, 0, 1, 2, 0]);
   assert_eq!(sweep(&thirds, 3, &mut lent).unwrap().last, Some(Point { x: 2, y: 2, d: 3 }));
-  let none = Swept { pairs: &[], steps: 0, ended: true, complete: true, last: None };
+  let none = Swept { pairs: &[], steps: 0, ended: true, complete: true, last: None, examined: 0 };
   assert_eq!(sweep(&[], 0, &mut []), Ok(none));
   assert_eq!(full_sweep(&[], 0, &mut []), Ok(none));
 }
@@ -173,9 +174,9 @@ fn sweep_with_an_upright_piece() {
   let mut lent = [0; pairs_room(3)];
   let swept = sweep(&gap, u32::MAX, &mut lent).unwrap();
   let last = Some(Point { x: 5, y: 6, d: 1 });
-  assert_eq!(swept, Swept { pairs: &[[0, 1]], steps: 7, ended: true, complete: false, last });
+  assert_eq!(swept, Swept { pairs: &[[0, 1]], steps: 7, ended: true, complete: false, last, examined: 8 });
   let full = full_sweep(&gap, u32::MAX, &mut lent).unwrap();
-  assert_eq!(full, Swept { pairs: &[[0, 1], [0, 2]], steps: 8, ended: true, complete: true, last });
+  assert_eq!(full, Swept { pairs: &[[0, 1], [0, 2]], steps: 8, ended: true, complete: true, last, examined: 0 });
 }
 
 /// The library reads the file that the tool wrote, and lists the pairs that all pairs has, in the order of the listing.

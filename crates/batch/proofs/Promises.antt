@@ -23,7 +23,7 @@ use Rattle.batch.proofs.Fitting.{need-odd, need-many, need-room, fits-y
 use Rattle.batch.proofs.Laying.{results-length}
 use Rattle.batch.proofs.Answering.{roomy}
 use Rattle.batch.proofs.Reading.{numbers-read}
-use Rattle.batch.proofs.Single.{fits-last}
+use Rattle.batch.proofs.Single.{fits-last, none-examined}
 use Rattle.batch.proofs.Each.{part-alone, parts-length, result-alone, beyond}
 
 -- ---- what is needed
@@ -135,4 +135,4 @@ keeps-the-rest list ks lent numbers r after told b e =
 pub reads-alone : ReadsAlone
 reads-alone list ks lent numbers r after told b e i h =
     ap sweptIn (each-alone list ks lent numbers r after told b e i h .0)
-    ∙ numbers-read (sweptAlone (numbersAt ks list i) (partAt ks lent i)) (fits-last (numbersAt ks list i) (partAt ks lent i))
+    ∙ numbers-read (sweptAlone (numbersAt ks list i) (partAt ks lent i)) (fits-last (numbersAt ks list i) (partAt ks lent i)) (none-examined (numbersAt ks list i) (partAt ks lent i))

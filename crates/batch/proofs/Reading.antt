@@ -1,6 +1,6 @@
 -- What is read in a result's ten numbers is what was put there, where the last point fits 64 bits.
 -- Assumes nothing.
-use mathlib.Core.Path.{_≡_, refl, ap}
+use mathlib.Core.Path.{sym, _≡_, refl, ap}
 use mathlib.Core.Bool.{Bool, true, false}
 use Prim.Native.Nat.{ℕ, _-_, _<_}
 use native.Mathlib.Omega.{arith}
@@ -28,15 +28,15 @@ flag-read : (b : Bool) → eqb (flag b) 1 ≡ b
 flag-read true = refl
 flag-read false = refl
 
-pub numbers-read : (s : Swept) → FitsLast (s .last) → sweptIn (numbersOf s) ≡ s
+pub numbers-read : (s : Swept) → FitsLast (s .last) → s .examined ≡ 0 → sweptIn (numbersOf s) ≡ s
 unfolding numbersOf sweptIn
-numbers-read s h = go (s .number) (s .place) (s .pairs) (s .steps) (s .ended) (s .complete) (s .last) h
+numbers-read s h q = go (s .number) (s .place) (s .pairs) (s .steps) (s .ended) (s .complete) (s .last) (s .examined) h (sym q)
   where
-    go : (number place pairs steps : ℕ) (ended complete : Bool) (last : Last) → FitsLast last
-        → let s : Swept = record { number = number; place = place; pairs = pairs; steps = steps; ended = ended; complete = complete; last = last } in sweptIn (numbersOf s) ≡ s
-    go number place pairs steps ended complete None h =
-        λ i. record { number = number; place = place; pairs = pairs; steps = steps; ended = flag-read ended i; complete = flag-read complete i; last = None }
-    go number place pairs steps ended complete (At p) h =
+    go : (number place pairs steps : ℕ) (ended complete : Bool) (last : Last) (examined : ℕ) → FitsLast last → 0 ≡ examined
+        → let s : Swept = record { number = number; place = place; pairs = pairs; steps = steps; ended = ended; complete = complete; last = last; examined = examined } in sweptIn (numbersOf s) ≡ s
+    go number place pairs steps ended complete None examined h q =
+        λ i. record { number = number; place = place; pairs = pairs; steps = steps; ended = flag-read ended i; complete = flag-read complete i; last = None; examined = q i }
+    go number place pairs steps ended complete (At p) examined h q =
         λ i. record {
           number = number;
           place = place;
@@ -45,4 +45,5 @@ numbers-read s h = go (s .number) (s .place) (s .pairs) (s .steps) (s .ended) (s
           ended = flag-read ended i;
           complete = flag-read complete i;
           last = At (record { x = reads-back (p .x) (h .0) i; y = reads-back (p .y) (h .1) i; d = p .d });
+          examined = q i;
         }

@@ -109,3 +109,13 @@ told-fits list budget lent (Refused k p) e = tt
 pub fits-last : (list : List ℤ) (lent : List ℕ) → FitsLast ((sweptAlone list lent) .last)
 unfolding sweptAlone sweepOf
 fits-last list lent = told-fits list largest (length lent) (listingOf list (length lent)) refl
+
+-- the new mode counts no pairs examined
+told-zero : (list : List ℤ) (budget : ℕ) (v : Verdict) → (sweptFor list budget v) .examined ≡ 0
+unfolding sweptBy
+told-zero list budget (Accepted n) = refl
+told-zero list budget (Refused number place) = refl
+
+pub none-examined : (list : List ℤ) (lent : List ℕ) → (sweptAlone list lent) .examined ≡ 0
+unfolding sweptAlone sweepOf
+none-examined list lent = told-zero list largest (listingOf list (length lent))

@@ -111,6 +111,7 @@ sweptIn l =
       ended = eqb (getD l 4 0) 1;
       complete = eqb (getD l 5 0) 1;
       last = lastIn (eqb (getD l 6 0) 1) (signed (getD l 7 0)) (signed (getD l 8 0)) (getD l 9 0);
+      examined = 0;
     }
 
 -- .. is what the single call returns

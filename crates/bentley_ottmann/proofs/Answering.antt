@@ -38,7 +38,7 @@ use Rattle.bentley_ottmann.specs.declared.run.Stop.{Stop}
 use Rattle.bentley_ottmann.specs.declared.Swept.{Swept}
 use Rattle.bentley_ottmann.specs.Swept.{asLast, sweptBy, listedOver, refusedWith, sweepOf, lentAfter}
 use Rattle.bentley_ottmann.specs.Running.{places, Stopped}
-use Rattle.bentley_ottmann.proofs.Running.{has-room, agrees}
+use Rattle.bentley_ottmann.proofs.Agreeing.{has-room, agrees}
 
 -- ---- the two words for the bytes of a list of pairs
 pub flat-is : (l : List Pair) → flat l ≡ bytes l
@@ -71,24 +71,24 @@ none-upright list (suc n) =
 -- ---- a run that stopped
 module _ (n : ℕ) (table : List ℤ) (lent : List ℕ) (few : n ≤ most) (long : (i : ℕ) → i < n → HasLength (pieceIn table i)) (lists : room n ≤ length lent)
     (budget : ℕ) {stop : Stop} {after : List ℕ}
-    (S : Stopped n table (onwards (chartIn n table) budget (start (chartIn n table) places lent)) stop after) where
+    (S : Stopped n table budget lent stop after) where
   abbrev C : Chart
   C = chartIn n table
 
-  abbrev came : State C
-  came = going C budget (begin C)
+  abbrev reached : State C
+  reached = going C budget (begin C)
 
-  A : Agrees C (ordered n (pieceIn table) long) places lent (onwards C budget (start C places lent)) came
+  A : Agrees C (ordered n (pieceIn table) long) places lent (onwards C budget (start C places lent)) reached
   A = agrees n table lent few long lists budget
 
-  counted : stop .end / 2 ≡ length (came .marks .listed)
-  counted = let e = S .end-is ∙ A .holds .end-is ∙ flat-length (came .marks .listed) in omega (arith, e)
+  counted : stop .end / 2 ≡ length (reached .marks .listed)
+  counted = let e = S .end-is ∙ A .holds .end-is ∙ flat-length (reached .marks .listed) in omega (arith, e)
 
-  ended : stop .ended ≡ is-none C (next-of C came)
-  ended = S .ended-is ∙ ap (is-none C) (next-agrees C (ordered n (pieceIn table) long) places lent (has-room n table lent few long lists) (onwards C budget (start C places lent)) came A)
+  ended : stop .ended ≡ is-none C (next-of C reached)
+  ended = S .ended-is ∙ ap (is-none C) (next-agrees C (ordered n (pieceIn table) long) places lent (has-room n table lent few long lists) (onwards C budget (start C places lent)) reached A)
 
   pub says : {c : Bool} → c ≡ not (any (λ i. isUpright (pieceIn table i)) (upto n))
-      → _≡_ {A = Swept} (record { number = 0; place = 0; pairs = stop .end / 2; steps = stop .steps; ended = stop .ended; complete = c; last = stop .last })
+      → _≡_ {A = Swept} (record { number = 0; place = 0; pairs = stop .end / 2; steps = stop .steps; ended = stop .ended; complete = c; last = stop .last; examined = stop .examined })
       (sweptBy n (pieceIn table) budget)
   unfolding sweptBy answer answer-of run
   says e k =
@@ -100,11 +100,12 @@ module _ (n : ℕ) (table : List ℤ) (lent : List ℕ) (few : n ≤ most) (long
         ended = ended k;
         complete = e k;
         last = (S .last-is ∙ ap asLast (A .last-is)) k;
+        examined = (S .examined-are) k;
       }
 
   pub leaves : after ≡ listedOver n (pieceIn table) budget lent
   unfolding listedOver over answer answer-of run
-  leaves = S .bytes-are ∙ A .holds .bytes-are ∙ ap (λ (l : List ℕ). l ++ drop (length l) lent) (flat-is (came .marks .listed))
+  leaves = S .bytes-are ∙ A .holds .bytes-are ∙ ap (λ (l : List ℕ). l ++ drop (length l) lent) (flat-is (reached .marks .listed))
 
 -- ---- an accepted list
 module _ (list : List ℤ) (n : ℕ) (e : verdictOf list ≡ Accepted n) where
@@ -122,9 +123,9 @@ module _ (list : List ℤ) (n : ℕ) (e : verdictOf list ≡ Accepted n) where
     its-length i h = rw (ap (λ (piece : ℕ → LineSegment). piece i) its-pieces) (pieces-have-length list n i e h)
 
     pub swept : (lent : List ℕ) → room n ≤ length lent → (budget : ℕ) {stop : Stop} {after : List ℕ}
-        → Stopped n table (onwards (chartIn n table) budget (start (chartIn n table) places lent)) stop after
+        → Stopped n table budget lent stop after
         → {c : Bool} → c ≡ noUpright list n
-        → (_≡_ {A = Swept} (record { number = 0; place = 0; pairs = stop .end / 2; steps = stop .steps; ended = stop .ended; complete = c; last = stop .last }) (sweptBy n (pieceAt list) budget))
+        → (_≡_ {A = Swept} (record { number = 0; place = 0; pairs = stop .end / 2; steps = stop .steps; ended = stop .ended; complete = c; last = stop .last; examined = stop .examined }) (sweptBy n (pieceAt list) budget))
         × (after ≡ listedOver n (pieceAt list) budget lent)
     swept lent r budget S g =
         let m = accepted-most list n e in (

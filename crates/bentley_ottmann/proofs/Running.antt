@@ -1,7 +1,7 @@
 -- What holds of the arrays while a run goes on: they are the sheet after so many steps.
 use mathlib.Core.Path.{_≡_, refl, sym, ap, ap₂, _∙_, subst}
 use mathlib.Core.Bool.{Bool, true, false, cond}
-use mathlib.Core.List.{List, [], _∷_, map, Memᴰ·of-map}
+use mathlib.Core.List.{List, [], Memᴰ·of-map}
 use mathlib.Core.List.{List·Memᴰ as In}
 use mathlib.Core.Option.{Option, none, some}
 use Prim.Native.Nat.{ℕ, zero, suc, _+_, _-_, _*_, _≤_, _<_}
@@ -11,27 +11,22 @@ use native.Mathlib.Omega.{arith}
 use borrow.Author.Tests.{ne-eqb}
 use lib.Dec.{eqb}
 use lib.IntN.{ℤ}
-use lib.ListN.{length, take, drop, length-append, length-map, drop-of-length-le}
+use lib.ListN.{length, take, drop, drop-of-length-le}
 use Rattle.fractions.specs.declared.Point.{Point}
 use Rattle.line_segment.specs.Piece.{HasLength}
 use Rattle.charts.specs.Chart.{most}
 use Rattle.charts.specs.Answer.{room}
-use Rattle.charts.proofs.Room.{room-none, room-more, room-least}
-use Rattle.sweep.specs.Lists.{Pair, upto, pairs}
+use Rattle.sweep.specs.Lists.{Pair}
 use Rattle.sweep.specs.Chart.{Chart}
-use Rattle.sweep.specs.Sought.{all}
 use Rattle.sweep.specs.State.{start as begin}
 use Rattle.sweep.specs.Run.{is-none}
 use Rattle.sweep.specs.Run.{onwards as going}
-use Rattle.sweep.proofs.Pairs.{upto-length}
 use Rattle.ported_arrays.specs.Numbers.{cell}
 use Rattle.ported_arrays.specs.Event.{Sheet}
 use Rattle.ported_arrays.specs.Event.{step as stepOn}
 use Rattle.ported_arrays.specs.Run.{next-by, next, move-to, onwards, start}
-use Rattle.ported_arrays.specs.Agreement.{Room, Agrees}
+use Rattle.ported_arrays.specs.Agreement.{Agrees}
 use Rattle.ported_arrays.proofs.Cells.{cell-small}
-use Rattle.ported_arrays.proofs.Flat.{flat-length}
-use Rattle.ported_arrays.proofs.Simulation.{run-agrees}
 use Rattle.ported_pieces.specs.Table.{pieceIn, chartIn}
 use Rattle.ported_pieces.proofs.Ordering.{ordered}
 use Rattle.ported_gather.specs.Joined.{AllBelow}
@@ -43,8 +38,12 @@ use Rattle.bentley_ottmann.specs.declared.Last.{Last}
 use Rattle.bentley_ottmann.specs.declared.Last.the-variants.{None, At}
 use Rattle.ported_ledger.specs.Views.{ledger}
 use Rattle.ported_step.specs.Views.{sheet}
+use Rattle.examinations.specs.Examined.{examined}
+use Rattle.bentley_ottmann.specs.declared.run.Stop.{Stop}
 use Rattle.bentley_ottmann.specs.Swept.{asLast}
-use Rattle.bentley_ottmann.specs.Running.{places, lastAt, Begun, Stopped}
+use Rattle.bentley_ottmann.specs.Running.{places, lastAt, Begun, came, Stopped}
+use Rattle.bentley_ottmann.proofs.Agreeing.{agrees}
+use Rattle.bentley_ottmann.proofs.Counting.{none-more}
 
 -- ---- the next point
 abbrev pub back : Next → Option Point
@@ -82,30 +81,6 @@ module _ (C : Chart) (s : Sheet C) (m : ℕ) (e : next C (onwards C m s) ≡ non
   pub idle-to : (k : ℕ) → m ≤ k → onwards C k s ≡ onwards C m s
   idle-to k h = let f : k ≡ (k - m) + m = omega arith in ap (λ (j : ℕ). onwards C j s) f ∙ idle (k - m)
 
--- ---- room for every pair
-pairs-twice : (l : List ℕ) → length (pairs l) + length (pairs l) ≡ room (length l)
-unfolding pairs
-pairs-twice [] = sym room-none
-pairs-twice (i ∷ l) =
-    let e = length-append (map (λ (j : ℕ). (i, j)) l) (pairs l) in
-    let f = length-map {B = Pair} l (λ (j : ℕ). (i, j)) in
-    omega (arith, e, f, pairs-twice l, room-more (length l))
-
--- ---- the arrays agree with the sweep
-module _ (n : ℕ) (table : List ℤ) (bytes : List ℕ) (few : n ≤ most) (long : (i : ℕ) → i < n → HasLength (pieceIn table i)) (lists : room n ≤ length bytes) where
-  twice : length (all (chartIn n table)) + length (all (chartIn n table)) ≡ room n
-  unfolding all
-  twice = pairs-twice (upto n) ∙ ap room (upto-length n)
-
-  pub has-room : Room (chartIn n table) places bytes
-  has-room =
-      let r : room most ≡ 4032 = unfold room in refl in
-      let l = room-least n most few in
-      record { few = few; waits = omega (arith, twice, l, r); lists = omega (arith, flat-length (all (chartIn n table)), twice, lists) }
-
-  pub agrees : (m : ℕ) → Agrees (chartIn n table) (ordered n (pieceIn table) long) places bytes (onwards (chartIn n table) m (start (chartIn n table) places bytes)) (going (chartIn n table) m (begin (chartIn n table)))
-  agrees m = run-agrees (chartIn n table) (ordered n (pieceIn table) long) places bytes has-room m
-
 -- ---- numbers in the arrays
 module _ {n : ℕ} {table : List ℤ} {ends active marks waiting bytes : List ℕ} (B : Begun n table ends active marks waiting bytes) where
   abbrev C : Chart
@@ -123,6 +98,20 @@ module _ {n : ℕ} {table : List ℤ} {ends active marks waiting bytes : List �
       let w = Memᴰ·of-map cell ((going C m (begin C)) .marks .waiting) (subst (λ (l : List ℕ). In c l) (H .waiting-is) h) in
       let v = (H .waiting-once) .pieces (w .0) (w .1) in
       rw (← w .2) (cell-small (w .0) (v .0) (omega (arith, v .1, B .few)))
+
+-- ---- a run that stopped early has stopped so at every larger budget
+stays-stopped : (n : ℕ) (table : List ℤ) (lent : List ℕ) {a b : ℕ} → came n table b lent ≡ came n table a lent → examined (chartIn n table) b ≡ examined (chartIn n table) a
+    → {stop : Stop} {bytes : List ℕ} → Stopped n table a lent stop bytes → Stopped n table b lent stop bytes
+stays-stopped n table lent e f S =
+    let C = chartIn n table in
+    record {
+      end-is = S .end-is ∙ ap (λ (s : Sheet C). s .ledger .end) (sym e);
+      steps-are = S .steps-are ∙ ap (λ (s : Sheet C). s .steps) (sym e);
+      ended-is = S .ended-is ∙ ap (λ (s : Sheet C). is-none C (next C s)) (sym e);
+      last-is = S .last-is ∙ ap (λ (s : Sheet C). asLast (s .last)) (sym e);
+      examined-are = S .examined-are ∙ sym f;
+      bytes-are = S .bytes-are ∙ ap (λ (s : Sheet C). s .ledger .bytes) (sym e);
+    }
 
 -- ---- the loop
 abbrev pub lastOf : ℕ → Point → Option Point
@@ -196,36 +185,41 @@ module _ {table : List ℤ} {ends active₀ marks₀ waiting₀ bytes₀ : List 
       pub waiting-left : AllBelow (most * most) (drop head waiting)
       waiting-left = rw (ap (λ (s : Sheet (chartIn n table)). s .ledger .waiting) (G .held n B)) (waiting-small B steps)
 
-      next-is : next-by (chartIn n table) (drop passed ends) (drop head waiting) ≡ next (chartIn n table) (sheet-at n steps)
+      pub next-is : next-by (chartIn n table) (drop passed ends) (drop head waiting) ≡ next (chartIn n table) (sheet-at n steps)
       unfolding next
       next-is = ap (next (chartIn n table)) (G .held n B)
 
-      stopped-at : {e : Bool} {l : Last} → e ≡ is-none (chartIn n table) (next (chartIn n table) (sheet-at n steps)) → l ≡ lastAt steps last
-          → Stopped n table (sheet-at n steps) (record { end = end; steps = steps; ended = e; last = l }) bytes
-      stopped-at f g =
+      stopped-at : {e : Bool} {l : Last} {t : ℕ} → e ≡ is-none (chartIn n table) (next (chartIn n table) (sheet-at n steps)) → l ≡ lastAt steps last
+          → t ≡ examined (chartIn n table) steps
+          → Stopped n table steps bytes₀ (record { end = end; steps = steps; ended = e; last = l; examined = t }) bytes
+      stopped-at f g x =
           record {
             end-is = ap (λ (s : Sheet (chartIn n table)). s .ledger .end) (G .held n B);
             steps-are = ap (λ (s : Sheet (chartIn n table)). s .steps) (G .held n B);
             ended-is = f;
             last-is = g ∙ as-last steps last ∙ ap (λ (s : Sheet (chartIn n table)). asLast (s .last)) (G .held n B);
+            examined-are = x;
             bytes-are = ap (λ (s : Sheet (chartIn n table)). s .ledger .bytes) (G .held n B);
           }
 
       -- the budget is spent
-      pub spent-all : budget ≤ steps → {e : Bool} {l : Last} → e ≡ is-none (chartIn n table) (next-by (chartIn n table) (drop passed ends) (drop head waiting)) → l ≡ lastAt steps last
-          → Stopped n table (sheet-at n budget) (record { end = end; steps = steps; ended = e; last = l }) bytes
-      spent-all h {e} {l} f g =
+      pub spent-all : budget ≤ steps → {e : Bool} {l : Last} {t : ℕ} → e ≡ is-none (chartIn n table) (next-by (chartIn n table) (drop passed ends) (drop head waiting)) → l ≡ lastAt steps last
+          → t ≡ examined (chartIn n table) steps
+          → Stopped n table budget bytes₀ (record { end = end; steps = steps; ended = e; last = l; examined = t }) bytes
+      spent-all h {e} {l} {t} f g x =
           let q : steps ≡ budget = omega (arith, h, G .spent) in
-          subst (λ (m : ℕ). Stopped n table (sheet-at n m) (record { end = end; steps = steps; ended = e; last = l }) bytes) q (stopped-at (f ∙ ap (is-none (chartIn n table)) next-is) g)
+          subst (λ (m : ℕ). Stopped n table m bytes₀ (record { end = end; steps = steps; ended = e; last = l; examined = t }) bytes) q (stopped-at (f ∙ ap (is-none (chartIn n table)) next-is) g x)
 
       -- the queue is empty
-      pub ran-out : {r : Next} → r ≡ nextBy n table (drop passed ends) (drop head waiting) → r ≡ Nothing → {l : Last} → l ≡ lastAt steps last
-          → Stopped n table (sheet-at n budget) (record { end = end; steps = steps; ended = true; last = l }) bytes
+      pub ran-out : {r : Next} → r ≡ nextBy n table (drop passed ends) (drop head waiting) → r ≡ Nothing → {l : Last} {t : ℕ} → l ≡ lastAt steps last
+          → t ≡ examined (chartIn n table) steps
+          → Stopped n table budget bytes₀ (record { end = end; steps = steps; ended = true; last = l; examined = t }) bytes
       unfolding is-none
-      ran-out f h {l} g =
+      ran-out f h {l} {t} g x =
           let none-left : next (chartIn n table) (sheet-at n steps) ≡ none = sym next-is ∙ told n table (drop passed ends) (drop head waiting) f ∙ ap back h in
-          subst (λ (s : Sheet (chartIn n table)). Stopped n table s (record { end = end; steps = steps; ended = true; last = l }) bytes) (sym (idle-to (chartIn n table) (start (chartIn n table) places bytes₀) steps none-left budget (G .spent)))
-          (stopped-at {e = true} (rw none-left refl) g)
+          stays-stopped n table bytes₀ (idle-to (chartIn n table) (start (chartIn n table) places bytes₀) steps none-left budget (G .spent))
+          (none-more n table bytes₀ (B .few) (B .long) (B .lists) steps none-left budget (G .spent))
+          (stopped-at {e = true} (rw none-left refl) g x)
 
     -- a step is done
     module _ {p : Point} {active′ marks′ waiting′ bytes′ : List ℕ} {passed′ live′ head′ end′ : ℕ} where

@@ -16,8 +16,9 @@ use Rattle.sweep.specs.Run.{is-none}
 use Rattle.ported_arrays.specs.Numbers.{end-before}
 use Rattle.ported_arrays.specs.Insertion.{insert-all}
 use Rattle.ported_arrays.specs.Event.{Sheet}
-use Rattle.ported_arrays.specs.Run.{blank, next}
+use Rattle.ported_arrays.specs.Run.{blank, next, onwards, start}
 use Rattle.ported_pieces.specs.Table.{pieceIn, chartIn}
+use Rattle.examinations.specs.Examined.{examined}
 use Rattle.bentley_ottmann.specs.declared.Last.{Last}
 use Rattle.bentley_ottmann.specs.declared.Last.the-variants.{None, At}
 use Rattle.bentley_ottmann.specs.declared.run.Stop.{Stop}
@@ -40,14 +41,19 @@ pub record Begun (n : ℕ) (table : List ℤ) (ends active marks waiting bytes :
   pub waits : length waiting ≡ places
   pub lists : room n ≤ length bytes
 
-module _ (n : ℕ) (table : List ℤ) where
+module _ (n : ℕ) (table : List ℤ) (budget : ℕ) (lent : List ℕ) where
   abbrev chart : Chart
   chart = chartIn n table
 
-  -- a run that came to this sheet stops so, and leaves these bytes
-  pub record Stopped (s : Sheet chart) (stop : Stop) (bytes : List ℕ) : Type 0 where
-    pub end-is : stop .end ≡ s .ledger .end
-    pub steps-are : stop .steps ≡ s .steps
-    pub ended-is : stop .ended ≡ is-none chart (next chart s)
-    pub last-is : stop .last ≡ asLast (s .last)
-    pub bytes-are : bytes ≡ s .ledger .bytes
+  -- the sheet that a run with this budget comes to
+  abbrev pub came : Sheet chart
+  came = onwards chart budget (start chart places lent)
+
+  -- it stops so, and leaves these bytes where `lent` stood
+  pub record Stopped (stop : Stop) (bytes : List ℕ) : Type 0 where
+    pub end-is : stop .end ≡ came .ledger .end
+    pub steps-are : stop .steps ≡ came .steps
+    pub ended-is : stop .ended ≡ is-none chart (next chart came)
+    pub last-is : stop .last ≡ asLast (came .last)
+    pub examined-are : stop .examined ≡ examined chart budget
+    pub bytes-are : bytes ≡ came .ledger .bytes

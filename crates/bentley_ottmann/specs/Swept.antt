@@ -14,6 +14,7 @@ use Rattle.charts.specs.declared.Verdict.the-variants.{Accepted, Refused}
 use Rattle.naive.specs.Pairs.{bytes, over}
 use Rattle.sweep.specs.Ported.{ported}
 use Rattle.sweep.specs.Run.{Answer, answer}
+use Rattle.examinations.specs.Examined.{examined as examinedBy}
 use Rattle.bentley_ottmann.specs.declared.Last.{Last}
 use Rattle.bentley_ottmann.specs.declared.Last.the-variants.{None, At}
 use Rattle.bentley_ottmann.specs.declared.Swept.{Swept}
@@ -26,8 +27,9 @@ asLast (some p) = At p
 module _ (n : ℕ) (piece : ℕ → LineSegment) where
   -- "It returns pairs listed, steps done (the lesser of budget and steps to the empty queue), whether the queue is
   -- empty, whether the chart has no upright piece ("complete"), and the last point, or none after zero steps."
-  abbrev pub saying : Answer (ported n piece) → Swept
-  saying a =
+  -- "It also returns how many adjacent pairs were examined, skipped ones too, in all steps done."
+  abbrev pub saying : Answer (ported n piece) → ℕ → Swept
+  saying a count =
       record {
         number = 0;
         place = 0;
@@ -36,11 +38,12 @@ module _ (n : ℕ) (piece : ℕ → LineSegment) where
         ended = a .ended;
         complete = a .complete;
         last = asLast (a .last);
+        examined = count;
       }
 
   -- a chart of these pieces, swept
   unfoldable pub sweptBy : ℕ → Swept
-  sweptBy budget = saying (answer (ported n piece) budget)
+  sweptBy budget = saying (answer (ported n piece) budget) (examinedBy (ported n piece) budget)
 
   -- "bytes past the last pair keep their values"
   unfoldable pub listedOver : ℕ → List ℕ → List ℕ
@@ -49,7 +52,7 @@ module _ (n : ℕ) (piece : ℕ → LineSegment) where
 -- "A refusal returns its number and a place, with every other field zero, "no", none or nothing"
 abbrev pub refusedWith : ℕ → ℕ → Swept
 refusedWith number place =
-    record { number = number; place = place; pairs = 0; steps = 0; ended = false; complete = false; last = None }
+    record { number = number; place = place; pairs = 0; steps = 0; ended = false; complete = false; last = None; examined = 0 }
 
 abbrev pub sweptFor : List ℤ → ℕ → Verdict → Swept
 sweptFor list budget (Accepted n) = sweptBy n (pieceAt list) budget

@@ -31,6 +31,8 @@ pub struct Swept {
     // whether no piece is upright
     pub complete: bool,
     pub last: Last,
+    // the adjacent pairs examined, skipped ones too, in all steps done
+    pub examined: u64,
 }
 
 fn refused(number: u8, place: usize) -> Swept
@@ -44,6 +46,7 @@ fn refused(number: u8, place: usize) -> Swept
         ended: false,
         complete: false,
         last: Last::None,
+        examined: 0,
     }
 }
 
@@ -65,6 +68,7 @@ fn sweep_pieces(list: &[i32], n: usize, budget: u32, pairs: &mut [u8]) -> Swept
         ended: stop.ended,
         complete,
         last,
+        examined: stop.examined,
     }
 }
 

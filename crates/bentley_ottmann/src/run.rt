@@ -1,15 +1,15 @@
 // A run of the sweep: from the first step until the budget or the queue is empty.
 ghost use mathlib.Core.Path.{_≡_};
 ghost use mathlib.Core.Option.{none};
-ghost use Prim.Native.Nat.{ℕ, _≤_, _<_};
+ghost use Prim.Native.Nat.{ℕ, _+_, _-_, _≤_, _<_};
 ghost use lib.ListN.{length, drop};
 ghost use Rattle.line_segment.specs.Piece.{HasLength};
 ghost use Rattle.charts.specs.Chart.{most};
 ghost use Rattle.charts.specs.Answer.{room};
 ghost use Rattle.sweep.specs.Run.{is-none};
 ghost use Rattle.ported_pieces.specs.Table.{pieceIn, chartIn};
-ghost use Rattle.ported_arrays.specs.Run.{next-by, onwards, start};
-ghost use Rattle.bentley_ottmann.specs.Running.{places, lastAt, Begun, Stopped};
+ghost use Rattle.ported_arrays.specs.Run.{next-by};
+ghost use Rattle.bentley_ottmann.specs.Running.{lastAt, Begun, Stopped};
 use crate::Last;
 use charts::MOST;
 use fractions::Point;
@@ -19,18 +19,35 @@ use ported_step::step;
 // A place for every pair.
 const PLACES: usize = MOST * (MOST - 1) / 2;
 
-// Where a run stops: the end of the list, the steps done, whether the queue is empty, and the last point.
+// Where a run stops: the end of the list, the steps done, whether the queue is empty, the last point, and how many adjacent
+// pairs were examined.
 pub struct Stop {
     pub end: usize,
     pub steps: u32,
     pub ended: bool,
     pub last: Last,
+    pub examined: u64,
 }
 
 fn last_at(steps: u32, p: Point) -> Last
     ensures { λ r. ⌜ r ≡ lastAt steps p ⌝ }
 {
     if steps == 0 { Last::None } else { Last::At(p) }
+}
+
+// How many adjacent pairs so many pieces have.
+fn gaps(count: usize) -> u64
+    ensures { λ r. ⌜ r ≡ count - 1 ⌝ }
+{
+    if count == 0 { 0 } else { (count - 1) as u64 }
+}
+
+// A step's examinations added: of the pieces that stayed, and of those that are active then.
+fn tally(examined: u64, stay: usize, live: usize) -> u64
+    requires { ⌜ (examined ≤ 1099511627776) × (stay ≤ most) × (live ≤ most) ⌝ }
+    ensures { λ r. ⌜ r ≡ examined + ((stay - 1) + (live - 1)) ⌝ }
+{
+    examined + (gaps(stay) + gaps(live))
 }
 
 // Whether the queue is empty.
@@ -54,7 +71,7 @@ fn go(
     bytes: &mut [u8],
 ) -> Stop
     requires { ⌜ ((n : ℕ) × Begun n (now table) (now ends) (now active) (now marks) (now waiting) (now bytes)) ⌝ }
-    ensures { λ r. ⌜ ((n : ℕ) → Begun n (now (table .entry)) (now (ends .entry)) (now (active .entry)) (now (marks .entry)) (now (waiting .entry)) (now (bytes .entry)) → Stopped n (now (table .entry)) (onwards (chartIn n (now (table .entry))) budget (start (chartIn n (now (table .entry))) places (now (bytes .entry)))) r (now (bytes .exit))) ⌝ }
+    ensures { λ r. ⌜ ((n : ℕ) → Begun n (now (table .entry)) (now (ends .entry)) (now (active .entry)) (now (marks .entry)) (now (waiting .entry)) (now (bytes .entry)) → Stopped n (now (table .entry)) budget (now (bytes .entry)) r (now (bytes .exit))) ⌝ }
 {
     let mut passed = 0;
     let mut live = 0;
@@ -62,6 +79,7 @@ fn go(
     let mut end = 0;
     let mut steps: u32 = 0;
     let mut last = Point { x: 0, y: 0, d: 0 };
+    let mut examined: u64 = 0;
     while steps < budget {
         match ported_queue::next_point(table, ends, passed, waiting, head) {
             Next::Nothing => {
@@ -70,6 +88,7 @@ fn go(
                     steps,
                     ended: true,
                     last: last_at(steps, last),
+                    examined,
                 };
             }
             Next::At(p) => {
@@ -92,6 +111,7 @@ fn go(
                 end = at.end;
                 steps += 1;
                 last = p;
+                examined = tally(examined, at.stay, at.live);
             }
         }
     }
@@ -100,13 +120,14 @@ fn go(
         steps,
         ended: is_empty(table, ends, passed, waiting, head),
         last: last_at(steps, last),
+        examined,
     }
 }
 
 // A run on the first n pieces of an array.
 pub fn run(table: &[i16], n: usize, budget: u32, bytes: &mut [u8]) -> Stop
     requires { ⌜ (n ≤ most) × ((i : ℕ) → i < n → HasLength (pieceIn (now table) i)) × (room n ≤ length (now bytes)) ⌝ }
-    ensures { λ r. ⌜ Stopped n (now (table .entry)) (onwards (chartIn n (now (table .entry))) budget (start (chartIn n (now (table .entry))) places (now (bytes .entry)))) r (now (bytes .exit)) ⌝ }
+    ensures { λ r. ⌜ Stopped n (now (table .entry)) budget (now (bytes .entry)) r (now (bytes .exit)) ⌝ }
 {
     let mut ends = [0u16; 2 * MOST];
     let mut active = [0u8; MOST];

@@ -30,9 +30,9 @@ extern "C" {
 
 /* ---- version: of what this header says. MAJOR grows where a program that was right may have to change. */
 #define MIRTALUGHE_VERSION_MAJOR 0
-#define MIRTALUGHE_VERSION_MINOR 14
+#define MIRTALUGHE_VERSION_MINOR 15
 #define MIRTALUGHE_VERSION_PATCH 0
-#define MIRTALUGHE_VERSION "0.14.0"
+#define MIRTALUGHE_VERSION "0.15.0"
 
 /* ---- sizes */
 #define MIRTALUGHE_MOST_PIECES 64 /* of a chart */
@@ -166,7 +166,9 @@ typedef struct {
    budget would do no more; `complete`, of mirtalughe_full_sweep always true, of mirtalughe_sweep that no piece is
    upright. Where `ended` and `complete`, every pair that meets is listed; where `complete` is false, pairs may be missing
    even then (mirtalughe_full_sweep and mirtalughe_all_pairs have them). Where `visited`, the last point is x/d, y/d in
-   lowest terms, d above 0; at zero steps nothing is visited and all three are zero. */
+   lowest terms, d above 0; at zero steps nothing is visited and all three are zero. `examined`, of mirtalughe_sweep how many
+   adjacent pairs were examined, skipped ones too, in all steps done: at most 2(n-1) a step for n pieces, n of at least 1, and
+   so at most 2(n-1)(2n+k) on a chart with k pairs that meet; of mirtalughe_full_sweep, which makes no such pass, 0. */
 typedef struct {
     uint8_t number;
     size_t place;
@@ -175,6 +177,7 @@ typedef struct {
     bool ended, complete, visited;
     int64_t x, y;
     uint64_t d;
+    uint64_t examined;
 } mirtalughe_swept;
 
 /* A chart's result in a batch: what mirtalughe_swept says, each in 64 bits. MIRTALUGHE_RESULT_NUMBERS numbers, no gaps. */
@@ -284,7 +287,7 @@ mirtalughe_swept mirtalughe_full_sweep(const int32_t *list, size_t length, uint3
 mirtalughe_answer mirtalughe_plain_order(const int32_t *list, size_t length, uint8_t *pairs, size_t lent);
 
 /* Sweeps as the Rust does, step by step. On a chart with no upright piece the answer and the bytes are those of
-   mirtalughe_full_sweep, at every budget; with upright pieces some pairs may be missing, and `complete` is false. */
+   mirtalughe_full_sweep, at every budget, but for `examined`; with upright pieces some pairs may be missing, and `complete` is false. */
 mirtalughe_swept mirtalughe_sweep(const int32_t *list, size_t length, uint32_t budget, uint8_t *pairs, size_t lent);
 
 /* Sweeps up to MIRTALUGHE_MOST_CHARTS charts in one call, each to its end, and returns their count. Their lists stand end

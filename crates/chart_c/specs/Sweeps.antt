@@ -19,6 +19,7 @@ sweptAs s Last.None =
       x = pos 0;
       y = pos 0;
       d = 0;
+      examined = s .examined;
     }
 sweptAs s (Last.At p) =
     record {
@@ -32,6 +33,7 @@ sweptAs s (Last.At p) =
       x = p .x;
       y = p .y;
       d = p .d;
+      examined = s .examined;
     }
 
 unfoldable pub sweptFields : Swept → SweptFields

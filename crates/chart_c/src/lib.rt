@@ -87,6 +87,7 @@ pub struct SweptFields {
     pub x: i64,
     pub y: i64,
     pub d: u64,
+    pub examined: u64,
 }
 
 // What is said of a supplier's list: `says` is 1 where it is accepted, 2 where entry `first` has fault `second`, and 3
@@ -315,6 +316,7 @@ fn swept_fields(s: Swept, last: Last) -> SweptFields
             x: 0,
             y: 0,
             d: 0,
+            examined: s.examined,
         },
         Last::At(p) => SweptFields {
             number: s.number,
@@ -327,6 +329,7 @@ fn swept_fields(s: Swept, last: Last) -> SweptFields
             x: p.x,
             y: p.y,
             d: p.d,
+            examined: s.examined,
         },
     }
 }

@@ -34,7 +34,7 @@ use Rattle.promises.specs.Sweep.{SweepPromises}
 use Rattle.full_sweep.proofs.sweep.Reads as sweep-call
 use Rattle.promises.proofs.Geometry.{none-upright}
 use Rattle.promises.proofs.Sweeping.{sweep-promises}
-use Rattle.full_promises.specs.Sweep.{Full, EveryChart, SameWithoutUprights, SameRefusals, FullPromises}
+use Rattle.full_promises.specs.Sweep.{uncounted, Full, EveryChart, SameWithoutUprights, SameRefusals, FullPromises}
 use Rattle.full_promises.proofs.Runs.{runs, sweeps}
 
 -- the contract of `sweep` itself allows no other outcome
@@ -61,7 +61,7 @@ module _ (list : List ℤ) (budget : ℕ) (lent : List ℕ) (r : Swept) (after :
 -- ---- every promise of a sweep
 pub sweep : SweepPromises Full EveryChart
 sweep =
-    sweep-promises Full EveryChart order (λ list n. answer (C list n)) (λ list n. visited (C list n))
+    sweep-promises Full EveryChart order (λ list n. answer (C list n)) (λ list n. visited (C list n)) (λ list n budget. 0)
     (record {
       done = λ list n budget lent r after e o. done list budget lent r after o n e;
       refused = λ list budget lent r after o. refused list budget lent r after o;
@@ -71,10 +71,10 @@ sweep =
     })
 
 -- ---- beside the ported sweep
--- both say a record of the same five values
+-- both say a record of the same five values; whatever was examined is left out
 same-saying : (n : ℕ) (piece : ℕ → LineSegment) (a : Told (ported-chart n piece)) (b : Told (finer n piece))
     → a .listed ≡ b .listed → a .steps ≡ b .steps → a .ended ≡ b .ended → a .complete ≡ b .complete → a .last ≡ b .last
-    → saying n piece b ≡ ported.saying n piece a
+    → saying n piece b ≡ uncounted (ported.saying n piece a 0)
 same-saying n piece a b l s e c t i =
     record {
       number = 0;
@@ -84,6 +84,7 @@ same-saying n piece a b l s e c t i =
       ended = sym e i;
       complete = sym c i;
       last = asLast (sym t i);
+      examined = 0;
     }
 
 pub without-uprights : SameWithoutUprights Full
@@ -94,7 +95,7 @@ without-uprights list budget lent r s after beyond (n, c, f) o p =
     let x = done list budget lent r after o n g in
     let y = ported-call.done-outcome list budget lent n g in
     let a = m .answers in (
-      x .0 ∙ same-saying n (pieceAt list) _ _ (a .listed budget) (a .steps budget) (a .ended budget) (m .complete budget) (a .last budget) ∙ y .0 ∙ sym (p .returned),
+      x .0 ∙ same-saying n (pieceAt list) _ _ (a .listed budget) (a .steps budget) (a .ended budget) (m .complete budget) (a .last budget) ∙ ap uncounted (y .0 ∙ sym (p .returned)),
       x .1 ∙ ap (λ (l : List Pair). over (bytes l) lent) (sym (a .listed budget)) ∙ y .1 ∙ sym (p .left),
     )
 
@@ -103,7 +104,7 @@ same-refused list budget lent r s after beyond (k, q, d) o p =
     let g = listing-refuses-exactly list (length lent) (Refused k q) .1 d in
     let x = refused list budget lent r after o k q g in
     let y = ported-call.refused-outcome list budget lent k q g in
-    (x .0 ∙ y .0 ∙ sym (p .returned), x .1 ∙ y .1 ∙ sym (p .left))
+    (x .0 ∙ ap uncounted (y .0 ∙ sym (p .returned)), x .1 ∙ y .1 ∙ sym (p .left))
 
 pub full-promises : FullPromises Full
 full-promises = record { sweep = sweep; same-without-uprights = without-uprights; same-refusals = same-refused }

@@ -38,7 +38,7 @@ use Rattle.full_sweep.specs.Running.{Stopped}
 
 -- what the call returns from where its run stops
 abbrev pub told : Stop → Swept
-told stop = record { number = 0; place = 0; pairs = stop .end / 2; steps = stop .steps; ended = stop .ended; complete = true; last = stop .last }
+told stop = record { number = 0; place = 0; pairs = stop .end / 2; steps = stop .steps; ended = stop .ended; complete = true; last = stop .last; examined = 0 }
 
 -- ---- a run that stopped
 module _ (n : ℕ) (table : List ℤ) (lent : List ℕ) (K : Given n table lent) (budget : ℕ) {stop : Stop} {after : List ℕ} (S : Stopped n table budget lent stop after) where
@@ -62,6 +62,7 @@ module _ (n : ℕ) (table : List ℤ) (lent : List ℕ) (K : Given n table lent)
         ended = S .ended-is k;
         complete = sym (says-complete C budget) k;
         last = S .last-is k;
+        examined = 0;
       }
 
   geometry : Geometry C

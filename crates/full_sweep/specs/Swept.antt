@@ -18,11 +18,11 @@ use Rattle.bentley_ottmann.specs.Swept.{refusedWith}
 use Rattle.bentley_ottmann.specs.Swept.{saying as ported-saying}
 
 module _ (n : ℕ) (piece : ℕ → LineSegment) where
-  -- the new mode's answer, said as the ported mode's is
+  -- the new mode's answer, said as the ported mode's is; its step has no pass over adjacent pairs to count
   abbrev pub saying : Answer (finer n piece) → Swept
   saying a =
       ported-saying n piece
-      (record { listed = a .listed; steps = a .steps; ended = a .ended; complete = a .complete; last = a .last })
+      (record { listed = a .listed; steps = a .steps; ended = a .ended; complete = a .complete; last = a .last }) 0
 
   -- a chart of these pieces, swept; "complete" is always yes
   unfoldable pub sweptBy : ℕ → Swept

@@ -26,6 +26,7 @@ fn refused(number: u8, place: usize) -> Swept
         ended: false,
         complete: false,
         last: Last::None,
+        examined: 0,
     }
 }
 
@@ -46,6 +47,7 @@ fn sweep_pieces(list: &[i32], n: usize, budget: u32, pairs: &mut [u8]) -> Swept
         ended: stop.ended,
         complete: true,
         last,
+        examined: 0,
     }
 }
 

@@ -78,7 +78,7 @@ module _ (n : ℕ) (table : List ℤ) (p : Point) (ends active marks waiting byt
         let k : head + length (slice head w1 waiting) ≡ w1 = omega (arith, length-slice head w1 waiting (W .within), W .onwards) in
         sym (rw (freed-is, ← (W .passed), ← (W .left), k) refl)
 
-    stay-is : stay C entry p ≡ keep (staysBy finish turned) (take live active)
+    pub stay-is : stay C entry p ≡ keep (staysBy finish turned) (take live active)
     unfolding stay
     stay-is = rw (finishing-is, turning-is) refl
 

@@ -1,25 +1,20 @@
 // One visit of the sweep, after the Rust's bentley_ottmann.rs: a step at the least point that is left.
 ghost use mathlib.Core.Path.{_≡_};
-ghost use Prim.Native.Nat.{ℕ, _*_, _≤_, suc};
+ghost use Prim.Native.Nat.{_*_, _≤_};
 ghost use lib.ListN.{length, take, drop};
-ghost use Rattle.ported_pieces.specs.Table.{chartIn};
-ghost use Rattle.sweep.specs.Lists.{adjacent, keep};
-ghost use Rattle.sweep.specs.Step.{each};
-ghost use Rattle.ported_arrays.specs.Ledger.{examine};
 ghost use Rattle.ported_ledger.specs.Views.{ledger};
-ghost use Rattle.ported_step.specs.Views.{rangedOf, sheet};
+ghost use Rattle.ported_step.specs.Views.{held, staying, entering};
+ghost use Rattle.ported_step.specs.Turns.{Turns, Within, Steps};
 ghost use Rattle.charts.specs.Chart.{most};
-ghost use Rattle.ported_arrays.specs.Event.{step as stepOn};
 ghost use Rattle.ported_gather.specs.Joined.{AllBelow};
-ghost use Rattle.ported_active.specs.Roles.{staysBy, entersBy};
-ghost use mathlib.Core.Option.{Option, some};
 use charts::MOST;
 use fractions::Point;
 use ported_examine::examine_all;
 use ported_report::report_all;
 
-// How many pieces are active, where the waiting pairs begin and where the list ends.
+// How many pieces stayed and are active, where the waiting pairs begin and where the list ends.
 pub struct Turned {
+    pub stay: usize,
     pub live: usize,
     pub head: usize,
     pub end: usize,
@@ -44,7 +39,7 @@ fn turn(
     end: usize,
 ) -> Turned
     requires { ⌜ (live ≤ length (now active)) × (h ≤ length (now here)) × (head ≤ length (now waiting)) × (length (now waiting) ≤ 65536) ⌝ }
-    ensures { λ r. ⌜ (r .live ≤ length (now (active .entry))) × (r .head ≤ length (now (waiting .entry))) × (take (r .live) (now (active .exit)) ≡ rangedOf (now (table .entry)) p (length (now (active .entry))) (keep (staysBy (now (finishing .entry)) (now (turning .entry))) (take live (now (active .entry)))) (keep (entersBy (now (starting .entry)) (now (finishing .entry)) (now (turning .entry))) (drop h (now (here .entry))))) × ((n : ℕ) → ledger (now (marks .exit)) (now (waiting .exit)) (r .head) (now (bytes .exit)) (r .end) ≡ each (examine (chartIn n (now (table .entry))) p) (adjacent (take (r .live) (now (active .exit)))) (each (examine (chartIn n (now (table .entry))) p) (adjacent (keep (staysBy (now (finishing .entry)) (now (turning .entry))) (take live (now (active .entry))))) (ledger (now (marks .entry)) (now (waiting .entry)) head (now (bytes .entry)) end))) ⌝ }
+    ensures { λ r. ⌜ Turns (now (table .entry)) p (length (now (active .entry))) (length (now (waiting .entry))) (staying (now (finishing .entry)) (now (turning .entry)) (take live (now (active .entry)))) (entering (now (starting .entry)) (now (finishing .entry)) (now (turning .entry)) (drop h (now (here .entry)))) (ledger (now (marks .entry)) (now (waiting .entry)) head (now (bytes .entry)) end) r (now (active .exit)) (ledger (now (marks .exit)) (now (waiting .exit)) (r .head) (now (bytes .exit)) (r .end)) ⌝ }
 {
     let stay = ported_active::leave(active, live, finishing, turning);
     let first = examine_all(table, p, active, stay, marks, waiting, head, bytes, end);
@@ -54,15 +49,17 @@ fn turn(
     let to = first.end;
     let second = examine_all(table, p, active, now_live, marks, waiting, from, bytes, to);
     Turned {
+        stay,
         live: now_live,
         head: second.head,
         end: second.end,
     }
 }
 
-// How many ends are passed and pieces active, where the waiting pairs begin and where the list ends.
+// How many ends are passed, pieces stayed and are active, where the waiting pairs begin and where the list ends.
 pub struct At {
     pub passed: usize,
+    pub stay: usize,
     pub live: usize,
     pub head: usize,
     pub end: usize,
@@ -83,7 +80,7 @@ pub fn step(
     end: usize,
 ) -> At
     requires { ⌜ (passed ≤ length (now ends)) × (length (now ends) ≤ 65536) × AllBelow (2 * most) (drop passed (now ends)) × (live ≤ length (now active)) × (length (now active) ≡ most) × (head ≤ length (now waiting)) × (length (now waiting) ≤ 65536) × AllBelow (most * most) (drop head (now waiting)) ⌝ }
-    ensures { λ r. ⌜ (r .passed ≤ length (now (ends .entry))) × (r .live ≤ length (now (active .entry))) × (r .head ≤ length (now (waiting .entry))) × ((n : ℕ) (last : Option Point) (steps : ℕ) → sheet n (now (table .entry)) (now (ends .entry)) (r .passed) (now (active .exit)) (r .live) (ledger (now (marks .exit)) (now (waiting .exit)) (r .head) (now (bytes .exit)) (r .end)) (some p) (suc steps) ≡ stepOn (chartIn n (now (table .entry))) (sheet n (now (table .entry)) (now (ends .entry)) passed (now (active .entry)) live (ledger (now (marks .entry)) (now (waiting .entry)) head (now (bytes .entry)) end) last steps) p) ⌝ }
+    ensures { λ r. ⌜ Within r (now (ends .entry)) (now (active .entry)) (now (waiting .entry)) × Steps (now (table .entry)) p (held (now (table .entry)) (now (ends .entry)) passed (now (active .entry)) live (ledger (now (marks .entry)) (now (waiting .entry)) head (now (bytes .entry)) end)) (held (now (table .entry)) (now (ends .entry)) (r .passed) (now (active .exit)) (r .live) (ledger (now (marks .exit)) (now (waiting .exit)) (r .head) (now (bytes .exit)) (r .end))) (r .stay) ⌝ }
 {
     let mut starting = [0u8; MOST];
     let mut finishing = [0u8; MOST];
@@ -124,6 +121,7 @@ pub fn step(
     );
     At {
         passed: e1,
+        stay: turned.stay,
         live: turned.live,
         head: turned.head,
         end: turned.end,

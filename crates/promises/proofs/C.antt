@@ -60,8 +60,8 @@ unfolding sweptFields
 read-fields s = go (s .last) refl
   where
     go : (l : Last) → s .last ≡ l → sweptRead (sweptAs s (s .last)) ≡ s
-    go None e = ap (λ (l : Last). sweptRead (sweptAs s l)) e ∙ λ i. record { number = s .number; place = s .place; pairs = s .pairs; steps = s .steps; ended = s .ended; complete = s .complete; last = sym e i }
-    go (At p) e = ap (λ (l : Last). sweptRead (sweptAs s l)) e ∙ λ i. record { number = s .number; place = s .place; pairs = s .pairs; steps = s .steps; ended = s .ended; complete = s .complete; last = sym e i }
+    go None e = ap (λ (l : Last). sweptRead (sweptAs s l)) e ∙ λ i. record { number = s .number; place = s .place; pairs = s .pairs; steps = s .steps; ended = s .ended; complete = s .complete; last = sym e i; examined = s .examined }
+    go (At p) e = ap (λ (l : Last). sweptRead (sweptAs s l)) e ∙ λ i. record { number = s .number; place = s .place; pairs = s .pairs; steps = s .steps; ended = s .ended; complete = s .complete; last = sym e i; examined = s .examined }
 
 -- so its call for C allows no other outcome, and has all its promises
 pub within-fields : (A : Outcome) (list : List ℤ) (budget : ℕ) (lent : List ℕ) (r : Swept) (after : List ℕ) → InFields A list budget lent r after → A list budget lent r after

@@ -8,6 +8,7 @@ pub mod Geometry
 pub mod Budgets
 pub mod Sweeping
 pub mod Ported
+pub mod Examined
 pub mod Pairs
 pub mod Reader
 pub mod C

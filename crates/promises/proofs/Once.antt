@@ -148,15 +148,16 @@ pub step-once :
     })
 step-once κ a x y s t p u v h k =
     let C = chartIn 0 (now (a .0)) in
-    let e = h .3 0 none 0 ∙ sym (k .3 0 none 0) in
+    let e = h .1 .does 0 none 0 ∙ sym (k .1 .does 0 none 0) in
     let passed : x .passed ≡ y .passed =
-    omega (arith, length-drop (x .passed) (now (a .1 .1 .0)), length-drop (y .passed) (now (a .1 .1 .0)), ap (λ (w : Sheet C). length (w .ends)) e, h .0, k .0) in
+    omega (arith, length-drop (x .passed) (now (a .1 .1 .0)), length-drop (y .passed) (now (a .1 .1 .0)), ap (λ (w : Sheet C). length (w .ends)) e, h .0 .passed, k .0 .passed) in
     let actives : take (x .live) (now (s .1 .1 .1 .1 .0)) ≡ take (y .live) (now (t .1 .1 .1 .1 .0)) = ap (λ (w : Sheet C). w .active) e in
     let live : x .live ≡ y .live =
-    omega (arith, length-take (x .live) (now (s .1 .1 .1 .1 .0)), length-take (y .live) (now (t .1 .1 .1 .1 .0)), ap length actives, h .1, k .1, u, v) in (
+    omega (arith, length-take (x .live) (now (s .1 .1 .1 .1 .0)), length-take (y .live) (now (t .1 .1 .1 .1 .0)), ap length actives, h .0 .lives, k .0 .lives, u, v) in (
       λ i.
           record {
             passed = passed i;
+            stay = (h .1 .stayed 0 none 0 ∙ sym (k .1 .stayed 0 none 0)) i;
             live = live i;
             head = ap (λ (w : Sheet C). w .ledger .spare) e i;
             end = ap (λ (w : Sheet C). w .ledger .end) e i;

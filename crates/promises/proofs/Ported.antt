@@ -20,6 +20,7 @@ use Rattle.sweep.specs.Ported.{isLess, rankOrder, ported}
 use Rattle.sweep.proofs.Runs.{steps-visited}
 use Rattle.sweep_geometry.proofs.Accepted.{list-proper, list-sweeps}
 use Rattle.sweep_geometry.proofs.Promises.{ported-always}
+use Rattle.examinations.specs.Examined.{examined}
 use Rattle.bentley_ottmann.specs.declared.Swept.{Swept}
 use Rattle.bentley_ottmann.specs.Swept.{saying, sweptBy, listedOver}
 use Rattle.bentley_ottmann.proofs.Answering.{refused-outcome, done-outcome}
@@ -82,14 +83,14 @@ complete : (list : List ℤ) (n budget : ℕ) → ((answer (ported n (pieceAt li
 unfolding answer answer-of
 complete list n budget = (λ h. none-upright list n .0 (complete-is list n ∙ h), λ w. sym (complete-is list n) ∙ none-upright list n .1 w)
 
-done : (list : List ℤ) (n budget : ℕ) (lent : List ℕ) (r : Swept) (after : List ℕ) → listingOf list (length lent) ≡ Accepted n → Ported list budget lent r after
-    → (r ≡ saying n (pieceAt list) (answer (ported n (pieceAt list)) budget)) × (after ≡ over (bytes ((answer (ported n (pieceAt list)) budget) .listed)) lent)
+pub done : (list : List ℤ) (n budget : ℕ) (lent : List ℕ) (r : Swept) (after : List ℕ) → listingOf list (length lent) ≡ Accepted n → Ported list budget lent r after
+    → (r ≡ saying n (pieceAt list) (answer (ported n (pieceAt list)) budget) (examined (ported n (pieceAt list)) budget)) × (after ≡ over (bytes ((answer (ported n (pieceAt list)) budget) .listed)) lent)
 unfolding sweptBy listedOver
 done list n budget lent r after e o = let t = done-outcome list budget lent n e in (o .returned ∙ sym (t .0), o .left ∙ sym (t .1))
 
 pub ported-promises : SweepPromises Ported NoneUpright
 ported-promises =
-    sweep-promises Ported NoneUpright order (λ list n. answer (ported n (pieceAt list))) (λ list n. visited (ported n (pieceAt list)))
+    sweep-promises Ported NoneUpright order (λ list n. answer (ported n (pieceAt list))) (λ list n. visited (ported n (pieceAt list))) (λ list n. examined (ported n (pieceAt list)))
     (record {
       done = done;
       refused = λ list budget lent r after o k p e. let t = refused-outcome list budget lent k p e in (o .returned ∙ sym (t .0), o .left ∙ sym (t .1));

@@ -97,14 +97,14 @@ taken-back (suc m) (x ∷ l) = ap (λ (t : List _). x ∷ t) (taken-back m l)
 module _ (Allowed : Outcome) (Whole : List ℤ → ℕ → Type 0)
     (order : List ℤ → Point → ℕ → ℕ → Bool)
     (run : (list : List ℤ) (n : ℕ) → ℕ → Told (chart (order list) list n))
-    (visited : List ℤ → ℕ → ℕ → List Point) where
+    (visited : List ℤ → ℕ → ℕ → List Point) (tried : List ℤ → ℕ → ℕ → ℕ) where
   abbrev C : List ℤ → ℕ → Chart
   C list n = chart (order list) list n
 
   abbrev pub telling : (list : List ℤ) (n budget : ℕ) → Swept
   telling list n budget =
       let a = run list n budget in
-      record { number = 0; place = 0; pairs = length (a .listed); steps = a .steps; ended = a .ended; complete = a .complete; last = asLast (a .last) }
+      record { number = 0; place = 0; pairs = length (a .listed); steps = a .steps; ended = a .ended; complete = a .complete; last = asLast (a .last); examined = tried list n budget }
 
   pub record Call : Type 0 where
     pub done : (list : List ℤ) (n budget : ℕ) (lent : List ℕ) (r : Swept) (after : List ℕ) → listingOf list (length lent) ≡ Accepted n → Allowed list budget lent r after

@@ -27,6 +27,7 @@ sweptRead r =
       ended = r .ended;
       complete = r .complete;
       last = lastRead (r .visited) (record { x = r .x; y = r .y; d = r .d });
+      examined = r .examined;
     }
 
 -- what the contract of a call for C allows that fills in the fields of what a sweep returned: of `mirtalughe_sweep` the ported

@@ -37,6 +37,7 @@ inventing budget s =
       ended = s .ended;
       complete = s .complete;
       last = s .last;
+      examined = s .examined;
     }
 
 abbrev pub InventsSteps : Outcome

@@ -29,9 +29,9 @@ pub starred : Starred
 unfolding outside offRange eqZ sameEnds faultOf numberAt faultAt pieces verdictOf kindOf coordinateOf pieceAt room listingOf pairVerdictOf meetingOf value marked groupsAt signedOf kindAt turned coordinateAt standsAt joined more numbers withLength piece ended readingOf lentReading answerOf piecesIn pointOf endOrder order ratioOrder pointOrder alongBy alongOf whereBy whereOf bytes over sweptBy listedOver sweepOf lentAfter
 starred = record {
   points = sweeps .cross-points;
-  two-steps = ap (saying 2 (pieceAt cross)) (sweeps .cross-two);
+  two-steps = ap₂ (saying 2 (pieceAt cross)) (sweeps .cross-two) (sweeps .cross-examined .0);
   two-list = λ u v. ap (λ (a : Answer (ported 2 (pieceAt cross))). over (bytes (a .listed)) (u ∷ v ∷ [])) (sweeps .cross-two);
-  three-steps = ap (saying 2 (pieceAt cross)) (sweeps .cross-three);
+  three-steps = ap₂ (saying 2 (pieceAt cross)) (sweeps .cross-three) (sweeps .cross-examined .1);
   three-list = λ u v. ap (λ (a : Answer (ported 2 (pieceAt cross))). over (bytes (a .listed)) (u ∷ v ∷ [])) (sweeps .cross-three);
   thirds-cross = ap met (examples .thirds);
   thirds-at = ap₂ whereBy (examples .thirds) (examples .thirds-at);

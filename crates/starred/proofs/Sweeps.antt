@@ -22,6 +22,8 @@ use Rattle.sweep.specs.Step.{list, each, starts, finishes, turns, takes-part, p
 use Rattle.sweep.specs.Run.{move-to, move, onwards, taken, visited, is-none, answer-of, answer}
 use Rattle.sweep.specs.Run.{run as run-of}
 use Rattle.sweep.specs.Ported.{isUpright, heightAbove, heightBelow, heightOrder, slopeOrder, rankOrder, ported}
+use Rattle.examinations.specs.Examined.{examinedAt, examinedOn, examinedIn}
+use Rattle.examinations.specs.Examined.{examined as counted}
 use Rattle.starred.specs.Written.{at}
 use Rattle.starred.specs.Starred.{cross}
 use Rattle.starred.specs.UprightGap.{gap}
@@ -34,7 +36,10 @@ pub record Sweeps : Type 0 where
       ≡ record { listed = (0, 1) ∷ []; steps = 3; ended = false; complete = true; last = some (at 2 2 1) }
   pub gap-nine : answer (ported 3 (pieceAt gap)) 9
       ≡ record { listed = (0, 1) ∷ []; steps = 7; ended = true; complete = false; last = some (at 5 6 1) }
+  -- the adjacent pairs examined
+  pub cross-examined : (counted (ported 2 (pieceAt cross)) 2 ≡ 1) × (counted (ported 2 (pieceAt cross)) 3 ≡ 2)
+  pub gap-examined : counted (ported 3 (pieceAt gap)) 9 ≡ 8
 
 pub sweeps : Sweeps
-unfolding order ratioOrder euclid gcdOf pointOrder common lowestOf det turnOf pointOf endOrder firstIncluded secondIncluded joinBy joinOf pieceOf run rise side leftBy leftmostOf rightBy rightmostOf within innerBetween stretchBy stretchOf touchOf turnTo opposed astrideOf intersectOf inBounds containsOf moment over cramerOf crossingOf outside numberAt kindOf coordinateOf pieceAt upto keep any place sort-into sort same-pair among pairs lesser-first adjacent-from adjacent meets same start ends beyond queue least-from least next list each starts finishes turns takes-part pieces report drop reported wait examine-free examine stay enter ranged examined step move-to move onwards taken visited is-none answer-of answer run-of isUpright heightAbove heightBelow heightOrder slopeOrder rankOrder
-sweeps = record { cross-points = refl; cross-two = refl; cross-three = refl; gap-nine = refl }
+unfolding order ratioOrder euclid gcdOf pointOrder common lowestOf det turnOf pointOf endOrder firstIncluded secondIncluded joinBy joinOf pieceOf run rise side leftBy leftmostOf rightBy rightmostOf within innerBetween stretchBy stretchOf touchOf turnTo opposed astrideOf intersectOf inBounds containsOf moment over cramerOf crossingOf outside numberAt kindOf coordinateOf pieceAt upto keep any place sort-into sort same-pair among pairs lesser-first adjacent-from adjacent meets same start ends beyond queue least-from least next list each starts finishes turns takes-part pieces report drop reported wait examine-free examine stay enter ranged examined step move-to move onwards taken visited is-none answer-of answer run-of isUpright heightAbove heightBelow heightOrder slopeOrder rankOrder examinedAt examinedOn examinedIn counted
+sweeps = record { cross-points = refl; cross-two = refl; cross-three = refl; gap-nine = refl; cross-examined = (refl, refl); gap-examined = refl }

@@ -1,5 +1,5 @@
 -- The upright gap, checked.
-use mathlib.Core.Path.{ap}
+use mathlib.Core.Path.{ap, ap₂}
 use Rattle.charts.specs.Fault.{outside, offRange, eqZ, sameEnds, faultOf}
 use Rattle.charts.specs.Chart.{numberAt, faultAt, pieces, verdictOf}
 use Rattle.charts.specs.Piece.{pieceAt}
@@ -20,7 +20,7 @@ unfolding outside offRange eqZ sameEnds faultOf numberAt faultAt pieces verdictO
 upright-gap = record {
   all-pairs = examples .gap-answer;
   all-list = examples .gap-bytes;
-  swept = ap (saying 3 (pieceAt gap)) (sweeps .gap-nine);
+  swept = ap₂ (saying 3 (pieceAt gap)) (sweeps .gap-nine) (sweeps .gap-examined);
   swept-list = ap (λ (a : Answer (ported 3 (pieceAt gap))). over (bytes (a .listed)) lent) (sweeps .gap-nine);
   full = ap (full-saying 3 (pieceAt gap)) gap-nine;
   full-list = ap (λ (a : Answer (finer 3 (pieceAt gap))). over (bytes (a .listed)) lent) gap-nine;

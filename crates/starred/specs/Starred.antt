@@ -36,10 +36,10 @@ pub record Starred : Type 0 where
   pub points : visited (ported 2 (pieceAt cross)) 9 ≡ at 0 0 1 ∷ at 0 4 1 ∷ at 2 2 1 ∷ at 4 0 1 ∷ at 4 4 1 ∷ []
   -- "Budget 2 lists nothing, 3 lists (0,1)."
   pub two-steps : sweepOf cross 2 2
-      ≡ record { number = 0; place = 0; pairs = 0; steps = 2; ended = false; complete = true; last = At (at 0 4 1) }
+      ≡ record { number = 0; place = 0; pairs = 0; steps = 2; ended = false; complete = true; last = At (at 0 4 1); examined = 1 }
   pub two-list : (u v : ℕ) → lentAfter cross 2 (u ∷ v ∷ []) ≡ u ∷ v ∷ []
   pub three-steps : sweepOf cross 3 2
-      ≡ record { number = 0; place = 0; pairs = 1; steps = 3; ended = false; complete = true; last = At (at 2 2 1) }
+      ≡ record { number = 0; place = 0; pairs = 1; steps = 3; ended = false; complete = true; last = At (at 2 2 1); examined = 2 }
   pub three-list : (u v : ℕ) → lentAfter cross 3 (u ∷ v ∷ []) ≡ 0 ∷ 1 ∷ []
   -- "(0,0)-(1,1) and (0,1)-(2,0), kind 3: Crossing at 2, 2 over 3."
   pub thirds-cross : meetingOf thirds ≡ met Crossing

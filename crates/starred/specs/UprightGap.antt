@@ -26,9 +26,9 @@ pub record UprightGap : Type 0 where
   pub all-list : listedBy gap lent ≡ 1 ∷ 0 ∷ 2 ∷ 0 ∷ 9 ∷ 9 ∷ []
   -- "Sweep, as in the Rust: only (0,1), 7 steps, not complete."
   pub swept : sweepOf gap 9 6
-      ≡ record { number = 0; place = 0; pairs = 1; steps = 7; ended = true; complete = false; last = At (at 5 6 1) }
+      ≡ record { number = 0; place = 0; pairs = 1; steps = 7; ended = true; complete = false; last = At (at 5 6 1); examined = 8 }
   pub swept-list : lentAfter gap 9 lent ≡ 0 ∷ 1 ∷ 9 ∷ 9 ∷ 9 ∷ 9 ∷ []
   -- "In the new mode: (0,1), (0,2), 8 steps, complete."
   pub full : fullSweepOf gap 9 6
-      ≡ record { number = 0; place = 0; pairs = 2; steps = 8; ended = true; complete = true; last = At (at 5 6 1) }
+      ≡ record { number = 0; place = 0; pairs = 2; steps = 8; ended = true; complete = true; last = At (at 5 6 1); examined = 0 }
   pub full-list : fullAfter gap 9 lent ≡ 0 ∷ 1 ∷ 0 ∷ 2 ∷ 9 ∷ 9 ∷ []

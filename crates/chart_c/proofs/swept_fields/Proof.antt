@@ -21,10 +21,10 @@ enum-known-last c = search needs
 
 at-point : (s : Swept) (p : Point) {x y : ℤ} → x ≡ p .x → y ≡ p .y
     → _≡_ {A = SweptFields}
-    (record { number = s .number; place = s .place; pairs = s .pairs; steps = s .steps; ended = s .ended; complete = s .complete; visited = true; x = x; y = y; d = p .d })
+    (record { number = s .number; place = s .place; pairs = s .pairs; steps = s .steps; ended = s .ended; complete = s .complete; visited = true; x = x; y = y; d = p .d; examined = s .examined })
     (sweptAs s (Last.At p))
 at-point s p e f k =
-    record { number = s .number; place = s .place; pairs = s .pairs; steps = s .steps; ended = s .ended; complete = s .complete; visited = true; x = e k; y = f k; d = p .d }
+    record { number = s .number; place = s .place; pairs = s .pairs; steps = s .steps; ended = s .ended; complete = s .complete; visited = true; x = e k; y = f k; d = p .d; examined = s .examined }
 
 returns : tie.Need-returns
 returns c = ap (sweptAs (c .before .before .args .s)) (sym (c .enum-told .given .1))

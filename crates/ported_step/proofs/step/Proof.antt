@@ -1,8 +1,8 @@
 -- `ported_step::step` meets its contract: the parts come together to the step on arrays.
-use mathlib.Core.Path.{_∙_}
+use mathlib.Core.Path.{sym, ap, _∙_}
 use native.Mathlib.Omega.{arith}
-use lib.ListN.{drop}
-use Rattle.ported_step.proofs.Assembling.{passed-in, assembled}
+use lib.ListN.{length, drop}
+use Rattle.ported_step.proofs.Assembling.{passed-in, stay-is, assembled}
 use borrow.Author.Needs.{needs}
 use Rattle.ported_step.proofs.step.Statement.{statement}
 use Rattle.ported_step.proofs.step.Tie as tie
@@ -82,15 +82,21 @@ returns c =
     let pc = c .before .before .before .before .before .before .before .before .before .before .before .before .before .before .before .before .before .before .before .before .before .before .before .before .before .before .before .before .before .before .before .before .before .pass-crossings .ensures in
     let g = c .before .before .before .before .before .before .before .before .before .before .before .before .before .before .before .before .before .before .before .before .before .before .before .before .before .before .gather .ensures in
     let t = c .before .before .before .before .before .before .before .before .turn .ensures in (
-      (pe .0 0) .within,
-      t .0,
-      t .1,
-      λ n last steps.
-          assembled n (st .args .table .now) (st .args .p) (st .args .ends .now) (st .args .active .now) (st .args .marks .now) (st .args .waiting .now) (st .args .bytes .now)
-          (st .args .passed) (st .args .live) (st .args .head) (st .args .end) last steps _ _ (pe .0 n) (pc .0 n) _ _ _ _ _ (pe .1) (pe .2) (pc .1) (pc .2) (g .list) _ _ _ _ (st .pre .4)
-          (c .before .before .before .before .before .before .before .before .before .before .before .before .before .before .before .before .before .before .before .before .before .report-all .ensures n (drop (c .before .before .before .before .before .before .before .before .before .before .before .before .before .before .before .before .before .before .before .before .before .before .before .before .before .before .before .before .before .before .before .before .before .pass-crossings .result) (st .args .waiting .now)) (c .before .before .before .before .before .before .before .before .before .before .before .before .before .before .before .before .before .before .before .before .before .before .before .before .before .before .before .before .before .before .before .before .before .pass-crossings .result))
-          (t .2)
-          (t .3 n),
+      record { passed = (pe .0 0) .within; fewer = t .fewer; lives = t .lives; heads = t .heads },
+      record {
+        does = λ n last steps.
+            assembled n (st .args .table .now) (st .args .p) (st .args .ends .now) (st .args .active .now) (st .args .marks .now) (st .args .waiting .now) (st .args .bytes .now)
+            (st .args .passed) (st .args .live) (st .args .head) (st .args .end) last steps _ _ (pe .0 n) (pc .0 n) _ _ _ _ _ (pe .1) (pe .2) (pc .1) (pc .2) (g .list) _ _ _ _ (st .pre .4)
+            (c .before .before .before .before .before .before .before .before .before .before .before .before .before .before .before .before .before .before .before .before .before .report-all .ensures n (drop (c .before .before .before .before .before .before .before .before .before .before .before .before .before .before .before .before .before .before .before .before .before .before .before .before .before .before .before .before .before .before .before .before .before .pass-crossings .result) (st .args .waiting .now)) (c .before .before .before .before .before .before .before .before .before .before .before .before .before .before .before .before .before .before .before .before .before .before .before .before .before .before .before .before .before .before .before .before .before .pass-crossings .result))
+            (t .ranges)
+            (t .examines n);
+        stayed = λ n last steps.
+            t .stayed
+            ∙ ap length
+            (sym
+            (stay-is n (st .args .table .now) (st .args .p) (st .args .ends .now) (st .args .active .now) (st .args .marks .now) (st .args .waiting .now) (st .args .bytes .now)
+            (st .args .passed) (st .args .live) (st .args .head) (st .args .end) last steps _ _ (pe .0 n) (pc .0 n) _ _ _ _ _ (pe .1) (pe .2) (pc .1) (pc .2) (g .list)));
+      },
     )
 
 pub step-spec : {M : Type 1} → statement M

@@ -3,7 +3,8 @@ use mathlib.Core.Path.{_≡_, sym, ap, ap₂, _∙_}
 use mathlib.Core.List.{List, []}
 use Prim.Native.Nat.{ℕ}
 use native.Mathlib.Omega.{arith}
-use lib.ListN.{drop}
+use lib.ListN.{length, drop}
+use lib.Seq.{length-take-le}
 use Rattle.ported_pieces.specs.Table.{chartIn}
 use Rattle.sweep.specs.Lists.{keep, adjacent}
 use Rattle.sweep.specs.Step.{each}
@@ -61,15 +62,18 @@ returns c =
     let n = c .before .before .before .before .before .before .before .before .before .before .before .before .before .before .before .before .before .enter .ensures in
     let r = c .before .before .before .before .before .before .before .before .before .before .before .before .before .resort .ensures in
     let s = c .before .before .before .before .before .before .examine-all2 .ensures in
-    let long = c .before .before .before .before .before .before .before .before .before .before .before .before .before .before .before .before .before .before .before .before .before .before .before .before .before .before .before .before .before .before .before .active .given in (
-      omega (arith, n .0, long),
-      omega (arith, s .0, c .before .before .before .before .before .before .before .before .before .before .before .before .before .before .before .before .before .before .before .before .before .before .waiting .given),
-      r ∙ ap (insert-all _ []) (n .1 ∙ ap₂ (λ (k : ℕ) (x : List ℕ). add k x (keep (entersBy (st .args .starting .now) (st .args .finishing .now) (st .args .turning .now)) (drop (st .args .h) (st .args .here .now)))) long (l .1)),
-      λ m.
+    let long = c .before .before .before .before .before .before .before .before .before .before .before .before .before .before .before .before .before .before .before .before .before .before .before .before .before .before .before .before .before .before .before .active .given in
+    record {
+      stayed = sym (length-take-le _ _ (omega (arith, l .0, long, st .pre .0))) ∙ ap length (l .1);
+      fewer = omega (arith, l .0, st .pre .0);
+      lives = omega (arith, n .0, long);
+      heads = omega (arith, s .0, c .before .before .before .before .before .before .before .before .before .before .before .before .before .before .before .before .before .before .before .before .before .before .waiting .given);
+      ranges = r ∙ ap (insert-all _ []) (n .1 ∙ ap₂ (λ (k : ℕ) (x : List ℕ). add k x (keep (entersBy (st .args .starting .now) (st .args .finishing .now) (st .args .turning .now)) (drop (st .args .h) (st .args .here .now)))) long (l .1));
+      examines = λ m.
           s .1 m
           ∙ ap (each (examine (chartIn m (st .args .table .now)) (st .args .p)) _)
-          (f .1 m ∙ ap (λ (z : List ℕ). each (examine (chartIn m (st .args .table .now)) (st .args .p)) (adjacent z) (ledger (st .args .marks .now) (st .args .waiting .now) (st .args .head) (st .args .bytes .now) (st .args .end))) (l .1)),
-    )
+          (f .1 m ∙ ap (λ (z : List ℕ). each (examine (chartIn m (st .args .table .now)) (st .args .p)) (adjacent z) (ledger (st .args .marks .now) (st .args .waiting .now) (st .args .head) (st .args .bytes .now) (st .args .end))) (l .1));
+    }
 
 pub turn-spec : {M : Type 1} → statement M
 turn-spec =

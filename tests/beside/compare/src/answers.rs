@@ -114,7 +114,7 @@ impl Answer {
 }
 
 /// What a call that sweeps returns: pairs listed, steps done, whether the queue is empty, whether no
-/// piece is upright, and the last point.
+/// piece is upright, the last point, and how many adjacent pairs were examined.
 #[derive(Clone, Copy, PartialEq, Eq, Debug, Default)]
 pub struct Swept {
   pub number: u8,
@@ -124,6 +124,7 @@ pub struct Swept {
   pub ended: bool,
   pub complete: bool,
   pub last: Option<Point>,
+  pub examined: u64,
 }
 
 impl Swept {

@@ -45,6 +45,7 @@ impl Due {
       ended: done == self.points.len(),
       complete: true,
       last,
+      examined: 0,
     }
   }
 

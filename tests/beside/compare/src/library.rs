@@ -128,6 +128,7 @@ struct SweptFields {
   x: i64,
   y: i64,
   d: u64,
+  examined: u64,
 }
 
 #[repr(C)]
@@ -281,6 +282,7 @@ fn swept(call: Sweeps, list: &[i32], budget: u32, pairs: &mut [u8]) -> Swept {
     ended: told.ended,
     complete: told.complete,
     last: told.visited.then_some(point),
+    examined: told.examined,
   }
 }
 

@@ -71,6 +71,7 @@ fn upright_gap() -> Result<(), String> {
     ended: true,
     complete: false,
     last: Some(Point::whole(5, 6)),
+    examined: 8,
     ..Swept::default()
   };
   let due = (expected, lent::with_pairs(&lent, &swept));
@@ -82,6 +83,7 @@ fn upright_gap() -> Result<(), String> {
     pairs: 2,
     steps: 8,
     complete: true,
+    examined: 0,
     ..expected
   };
   let due = (expected, lent::with_pairs(&lent, &[(0, 1), (0, 2)]));

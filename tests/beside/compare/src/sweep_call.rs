@@ -127,5 +127,6 @@ fn stopped(run: &Run, complete: bool, budget: u32) -> Swept {
     ended: done == run.steps.len(),
     complete,
     last: last.map(|step| step.visited),
+    examined: run.steps[..done].iter().map(|step| step.examined.len() as u64).sum(),
   }
 }

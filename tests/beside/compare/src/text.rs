@@ -17,8 +17,13 @@ pub fn run(chart: &Chart) -> Result<Run, String> {
   let swept = bentley_ottmann::sweep(&numbers(chart), u32::MAX, &mut bytes);
   let steps = told::take().into_iter();
   let steps: Result<Vec<Step>, String> = steps.map(|step| as_told(chart, &step)).collect();
+  let steps = steps?;
+  let examined: usize = steps.iter().map(|step| step.examined.len()).sum();
+  if swept.examined != examined as u64 {
+    return Err(format!("library, by its text: {} pairs examined, and says {}", examined, swept.examined));
+  }
   Ok(Run {
-    steps: steps?,
+    steps,
     list: pairs(&bytes[..2 * swept.pairs]),
   })
 }
@@ -41,6 +46,7 @@ pub fn full_sweep(list: &[i32], budget: u32, bytes: &mut [u8]) -> Swept {
         d: p.d.into(),
       }),
     },
+    examined: told.examined,
   }
 }
 
