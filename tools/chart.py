@@ -11,6 +11,7 @@
   chart.py fold m H S [NAME]                    the pieces of m times x folded at 0 and H, from x = 0 to S, as lines of
                                                 a readable chart, each with the name
   chart.py pairs [TEXT [FILE]]                  a supplier's list, two numbers a line, becomes bytes, two a pair
+  chart.py region TEXT [ANSWERS [PICTURE]]      an outline, peaks and what examples/region.c answers of them become an SVG
   chart.py tell TEXT PAIRS [ANSWER]             what examples/check.c answers of a readable chart's file and such bytes,
                                                 in a sentence with the pieces' names
 
@@ -29,6 +30,7 @@ import formats
 import meetings
 import page
 import program
+import regions
 import supplied
 from streams import first, say, shown, write
 
@@ -54,6 +56,9 @@ def main(words):
         return write(made, drawn(source, listing))
     if command == "fold" and 3 <= len(names) <= 4:
         return write("-", folding.text(*names))
+    if command == "region" and 1 <= len(names) <= 3:
+        source, answers, made = (names + ["-", "-"])[:3]
+        return write(made, located(source, answers))
     if command == "pairs" and len(names) <= 2:
         given, made = (names + ["-", "-"])[:2]
         return write(made, read(given, supplied.bytes_of_text))
@@ -109,6 +114,13 @@ def drawn(source, listing):
         counts = f"{listed.count} pieces, but {shown(source)} has {len(chart.pieces)}"
         raise formats.Wrong(f"{shown(listing)}, line 1: {counts}")
     return drawing.picture(chart, listed)
+
+
+def located(source, answers):
+    region, said = read(source, regions.of_text), read(answers, regions.answers_of_text)
+    if len(said) != len(region.peaks):
+        raise formats.Wrong(f"{shown(answers)}: {len(said)} answers, but {shown(source)} has {len(region.peaks)} peaks")
+    return regions.picture(region, said)
 
 
 def told(source, pairs, answer):
