@@ -154,7 +154,7 @@ plain_order/specs/Plain:orderingOf RefusesInOrder
     (
         "3, a piece taken out",
         "piece_out/specs/Demand:CutIsAChart,PortedWithout,NewWithout,AllPairsWithout,PortedAdds,NewAdds,AllPairsAdds",
-        LISTS + SWEEP + PAIRS + "charts/specs/Demand:ListingDue ListingRefusesExactly",
+        LISTS + SWEEP + FULL + PAIRS + "charts/specs/Demand:ListingDue ListingRefusesExactly",
     ),
     (
         "1 and 3, a batch",
@@ -323,7 +323,9 @@ def table():
         by = defaultdict(list)
         for (_, name), statement in pinned.items():
             by[statement].append(f"`{name}`")
-        left = "; ".join(f"{', '.join(names)} by {s if ' ' in s else f'`{s}`'}" for s, names in by.items())
+        if told:
+            yield f"| {told} | what stands above | | |\n"
+        left = "; ".join(f"{', '.join(dict.fromkeys(names))} by {s if ' ' in s else f'`{s}`'}" for s, names in by.items())
         if left:
             yield f"| | pinned, and left out | {left} | |\n"
 
