@@ -123,11 +123,7 @@ pub struct HalfMet {
 pub extern "C" fn mirtalughe_orient(x1: i16, y1: i16, x2: i16, y2: i16, x3: i16, y3: i16) -> i8
     ensures { λ r. ⌜ r ≡ turnNumber (turnOf (det x1 y1 x2 y2 x3 y3)) ⌝ }
 {
-    match orientation::orient(x1, y1, x2, y2, x3, y3) {
-        Orientation::CounterClockWise => 1,
-        Orientation::ClockWise => -1,
-        Orientation::CoLinear => 0,
-    }
+    turn_number(orientation::orient(x1, y1, x2, y2, x3, y3))
 }
 
 // Which of the points x1/d1, y1/d1 and x2/d2, y2/d2 comes first, as its number.
