@@ -1,6 +1,4 @@
 // The sweep that loses nothing on any chart, upright pieces or not: a point a step, the active list changed in place.
-mod run;
-
 ghost use mathlib.Core.Path.{_≡_};
 ghost use Prim.Native.Nat.{_≤_};
 ghost use lib.ListN.{length};
@@ -10,10 +8,10 @@ ghost use Rattle.charts.specs.Piece.{pieceAt};
 ghost use Rattle.charts.specs.declared.Verdict.the-variants.{Accepted};
 ghost use Rattle.bentley_ottmann.specs.Swept.{refusedWith};
 ghost use Rattle.full_sweep.specs.Swept.{sweptBy, listedOver, sweepOf, lentAfter};
-use bentley_ottmann::Last;
 use bentley_ottmann::Swept;
 use charts::MOST;
 use charts::Verdict;
+use ported_run::Last;
 
 fn refused(number: u8, place: usize) -> Swept
     ensures { λ r. ⌜ r ≡ refusedWith number place ⌝ }
@@ -37,7 +35,7 @@ fn sweep_pieces(list: &[i32], n: usize, budget: u32, pairs: &mut [u8]) -> Swept
 {
     let mut table = [0i16; 5 * MOST];
     ported_table::fill(list, n, &mut table);
-    let stop = run::run(&table, n, budget, pairs);
+    let stop = full_run::run(&table, n, budget, pairs);
     let last = stop.last;
     Swept {
         number: 0,
