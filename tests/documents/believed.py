@@ -181,8 +181,8 @@ decimals/specs/Decimal:decimal ReadsBack
     ),
     (
         "the calls for C",
-        "chart_c/specs/Numbers:turnNumber,orderNumber chart_c/specs/Meetings:fieldsOf chart_c/specs/Places:placedOf "
-        "chart_c/specs/Sweeps:sweptFields chart_c/specs/Checks:checkedAs",
+        "c_records/specs/Numbers:turnNumber,orderNumber c_records/specs/Meetings:fieldsOf c_records/specs/Places:placedOf "
+        "c_records/specs/Sweeps:sweptFields c_records/specs/Checks:checkedAs",
         "",
     ),
 ]

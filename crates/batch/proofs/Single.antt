@@ -27,7 +27,7 @@ use Rattle.full_steps.specs.Steps.{answer}
 use Rattle.full_order.proofs.Modes.{list-full-sweeps}
 use Rattle.sweep_geometry.proofs.Supply.{reduced}
 use Rattle.sweep_geometry.proofs.Accepted.{list-proper}
-use Rattle.bentley_ottmann.specs.Swept.{asLast}
+use Rattle.ported_run.specs.Last.{asLast}
 use Rattle.full_sweep.specs.Swept.{sweptBy, sweptFor, sweepOf, listedOver, lentFor, lentAfter}
 use Rattle.batch.specs.Single.{largest, sweptAlone, leftAlone}
 use Rattle.batch.proofs.Reading.{FitsLast}

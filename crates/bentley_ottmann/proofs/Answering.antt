@@ -34,11 +34,12 @@ use Rattle.ported_pieces.specs.Table.{pieceIn, chartIn}
 use Rattle.ported_table.specs.Filled.{filled}
 use Rattle.ported_pieces.proofs.Ordering.{ordered}
 use Rattle.ported_table.proofs.Filling.{filled-pieces}
-use Rattle.bentley_ottmann.specs.declared.run.Stop.{Stop}
+use Rattle.ported_run.specs.declared.Stop.{Stop}
 use Rattle.bentley_ottmann.specs.declared.Swept.{Swept}
-use Rattle.bentley_ottmann.specs.Swept.{asLast, sweptBy, listedOver, refusedWith, sweepOf, lentAfter}
-use Rattle.bentley_ottmann.specs.Running.{places, Stopped}
-use Rattle.bentley_ottmann.proofs.Agreeing.{has-room, agrees}
+use Rattle.ported_run.specs.Last.{asLast}
+use Rattle.bentley_ottmann.specs.Swept.{sweptBy, listedOver, refusedWith, sweepOf, lentAfter}
+use Rattle.ported_run.specs.Running.{places, Stopped}
+use Rattle.ported_run.proofs.Agreeing.{has-room, agrees}
 
 -- ---- the two tests for a chart with no upright piece
 any-append : (f : ℕ → Bool) (l m : List ℕ) → any f (l ++ m) ≡ (any f l || any f m)

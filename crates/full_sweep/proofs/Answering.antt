@@ -32,9 +32,9 @@ use Rattle.full_step.proofs.Fitting.{once-fits}
 use Rattle.bentley_ottmann.specs.declared.Swept.{Swept}
 use Rattle.bentley_ottmann.specs.Swept.{refusedWith}
 use Rattle.bentley_ottmann.proofs.Answering.{its-pieces}
-use Rattle.full_sweep.specs.declared.run.Stop.{Stop}
+use Rattle.full_run.specs.declared.Stop.{Stop}
 use Rattle.full_sweep.specs.Swept.{sweptBy, listedOver, sweepOf, lentAfter}
-use Rattle.full_sweep.specs.Running.{Stopped}
+use Rattle.full_run.specs.Running.{Stopped}
 
 -- what the call returns from where its run stops
 abbrev pub told : Stop → Swept

@@ -1,6 +1,4 @@
 // The sweep that loses nothing on any chart, upright pieces or not: a point a step, the active list changed in place.
-mod run;
-
 ghost use mathlib.Core.Path.{_≡_};
 ghost use Prim.Native.Nat.{_≤_};
 ghost use lib.ListN.{length};
@@ -12,6 +10,7 @@ ghost use Rattle.full_sweep.specs.Swept.{sweptBy, listedOver, sweepOf, l
 use bentley_ottmann::Swept;
 use charts::MOST;
 use charts::Verdict;
+use ported_run::Last;
 
 // The sweep of an accepted chart.
 fn sweep_pieces(list: &[i32], n: usize, budget: u32, pairs: &mut [u8]) -> Swept
@@ -20,7 +19,7 @@ fn sweep_pieces(list: &[i32], n: usize, budget: u32, pairs: &mut [u8]) -> Swept
 {
     let mut table = [0i16; 5 * MOST];
     ported_table::fill(list, n, &mut table);
-    let stop = run::run(&table, n, budget, pairs);
+    let stop = full_run::run(&table, n, budget, pairs);
     let last = stop.last;
     Swept {
         number: 0,
