@@ -198,7 +198,7 @@ class Spec:
         text = re.sub(r"--.*", "", (ROOT / "crates" / f"{name}.antt").read_text())
         lines = text.splitlines()
         for line in lines:
-            use = re.match(r"use (\S+)\.\{(.*)\}", line)
+            use = re.match(r"(?:unfoldable |pub )*use (\S+)\.\{(.*)\}", line)
             for told in use[2].split(",") if use else ():
                 given, _, own = told.strip().partition(" as ")
                 self.uses[own or given] = (source_of(use[1]), given)
@@ -207,7 +207,7 @@ class Spec:
             declared = re.match(r"\s*(?:(?:abbrev|unfoldable|pub|opaque) )*(?:record |data )?(" + WORD + ")", line)
             opens = re.match(r"\s*((abbrev|unfoldable|pub|opaque) )+(record |data )?" + WORD, line)
             field = block and line.startswith(block[1] + "  ")
-            if re.match(r"\s*(use|module|open) ", line):
+            if re.match(r"\s*((unfoldable |pub )*use|module|open) ", line):
                 block = None
             elif opens and not field:
                 block = (declared[1], re.match(r"\s*", line)[0])

@@ -27,7 +27,8 @@ pub struct Swept {
     pub examined: u64,
 }
 
-fn refused(number: u8, place: usize) -> Swept
+// A refusal, in either mode.
+pub fn refused(number: u8, place: usize) -> Swept
     ensures { λ r. ⌜ r ≡ refusedWith number place ⌝ }
 {
     Swept {

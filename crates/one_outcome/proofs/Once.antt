@@ -79,13 +79,13 @@ passed-once {l} {x} {y} p q =
 
 pub pass-ends-once : OneOutcome pass-ends.Post {M = List ℕ × List ℕ} (λ κ s. (now (s .1 .1 .1 .1 .0), now (s .1 .1 .1 .1 .1 .0)))
 pass-ends-once κ a x y s t h k =
-    let e = passed-once (h .0 0) (k .0 0) in
-    (e, λ i. (((rw e at (h .1)) ∙ sym (k .1)) i, ((rw e at (h .2)) ∙ sym (k .2)) i))
+    let e = passed-once (h .passes 0) (k .passes 0) in
+    (e, λ i. (((rw e at (h .starts)) ∙ sym (k .starts)) i, ((rw e at (h .finishes)) ∙ sym (k .finishes)) i))
 
 pub pass-crossings-once : OneOutcome pass-crossings.Post {M = List ℕ × List ℕ} (λ κ s. (now (s .1 .1 .1 .1 .0), now (s .1 .1 .1 .1 .1 .0)))
 pass-crossings-once κ a x y s t h k =
-    let e = passed-once (h .0 0) (k .0 0) in
-    (e, λ i. (((rw e at (h .1)) ∙ sym (k .1)) i, ((rw e at (h .2)) ∙ sym (k .2)) i))
+    let e = passed-once (h .passes 0) (k .passes 0) in
+    (e, λ i. (((rw e at (h .turns)) ∙ sym (k .turns)) i, ((rw e at (h .frees)) ∙ sym (k .frees)) i))
 
 -- ---- one result, and what is in use: places outside the lists that the arrays hold are spare
 -- the pairs that wait, from the new head on
@@ -103,7 +103,7 @@ pub examine-all-once :
     OneInUse examine-all.Pre examine-all.Post (λ κ a s. Unit {0}) {M = List ℕ × List ℕ × List ℕ}
     (λ κ a x s. (now (s .1 .1 .1 .1 .0), drop (x .head) (now (s .1 .1 .1 .1 .1 .0)), now (s .1 .1 .1 .1 .1 .1 .1 .0)))
 examine-all-once κ a x y s t p u v h k =
-    let e = h .1 0 ∙ sym (k .1 0) in (
+    let e = h .books 0 ∙ sym (k .books 0) in (
       λ i. record { head = ap (λ (b : Ledger). b .spare) e i; end = ap (λ (b : Ledger). b .end) e i },
       λ i. (ap (λ (b : Ledger). b .marks) e i, ap (λ (b : Ledger). b .waiting) e i, ap (λ (b : Ledger). b .bytes) e i),
     )

@@ -59,17 +59,6 @@ fn rename(names: &[u8], pairs: &mut [u8], end: usize)
     }
 }
 
-// Two bytes for each pair of n pieces.
-fn room_of(n: usize) -> usize
-    requires { ⌜ n ≤ places ⌝ }
-    ensures { λ r. ⌜ r ≡ room n ⌝ }
-{
-    if n == 0 {
-        return 0;
-    }
-    n * (n - 1)
-}
-
 // Every pair of pieces that meet, under the numbers of their places, two bytes a pair; how many, or why it is refused.
 pub fn all_pairs(chart: &[i32], pairs: &mut [u8]) -> Answer
     ensures { λ r. ⌜ (r ≡ openPairsOf (now (chart .entry)) (length (now (pairs .entry)))) × (now (pairs .exit) ≡ lentAfter (now (chart .entry)) (now (pairs .entry))) ⌝ }
@@ -79,7 +68,7 @@ pub fn all_pairs(chart: &[i32], pairs: &mut [u8]) -> Answer
     }
     let standing = gather(chart);
     let n = standing.count;
-    if pairs.len() < room_of(n) {
+    if pairs.len() < charts::room_of(n) {
         return charts::refused(8, 0);
     }
     let all = standing.all;

@@ -37,7 +37,7 @@ gather-requires : tie.Need-gather-requires
 gather-requires c κs = search needs
 
 room-of-requires : tie.Need-room-of-requires
-room-of-requires c κs = few (chart-of c) (c .gather .result .all) (c .gather .result .names) (c .gather .result .count) (c .gather .ensures)
+room-of-requires c κs = omega (arith, few (chart-of c) (c .gather .result .all) (c .gather .result .names) (c .gather .result .count) (c .gather .ensures))
 
 refused-requires-2 : tie.Need-refused-requires-2
 refused-requires-2 c κs = search needs

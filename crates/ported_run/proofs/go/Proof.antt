@@ -56,16 +56,17 @@ enum-known-p c = search needs
 step-requires : tie.Need-step-requires Inv-loop μ-loop
 step-requires c κs =
     let G = c .before .before .before .before .before .before .before .before .before .before .loop .inv .0 in
-    let B = c .before .before .before .before .before .before .before .before .before .before .before .before .before .before .before .before .pre in (
-      G .within,
-      omega (arith, B .1 .count, B .1 .few),
-      ends-left G (B .0) (B .1),
-      G .lives,
-      G .active-long ∙ B .1 .actives,
-      G .heads,
-      omega (arith, G .waiting-long, B .1 .waits),
-      waiting-left G (B .0) (B .1),
-    )
+    let B = c .before .before .before .before .before .before .before .before .before .before .before .before .before .before .before .before .pre in
+    record {
+      passes = G .within;
+      ends-few = omega (arith, B .1 .count, B .1 .few);
+      ends-left = ends-left G (B .0) (B .1);
+      lives = G .lives;
+      full = G .active-long ∙ B .1 .actives;
+      heads = G .heads;
+      waiting-few = omega (arith, G .waiting-long, B .1 .waits);
+      waiting-left = waiting-left G (B .0) (B .1);
+    }
 
 add-steps : tie.Need-add-steps Inv-loop μ-loop
 add-steps c = record { fits = omega (arith, c .before .before .before .before .before .before .before .before .before .before .before .before .before .before .before .before .before .before .loop-test, c .before .before .before .before .before .before .before .before .before .before .before .before .before .before .before .before .before .before .before .before .before .before .before .before .before .fits .budget) }
