@@ -35,15 +35,16 @@ use Rattle.sweep.proofs.Lists.{pairwise-map}
 use Rattle.sweep.proofs.Tests.{clash}
 use Rattle.ported_arrays.proofs.Distinct.{distinct-fit}
 use Rattle.sweep_geometry.specs.Demand.{LeastCommon}
-use Rattle.bentley_ottmann.specs.declared.Last.{Last}
-use Rattle.bentley_ottmann.specs.declared.Last.the-variants.{None, At}
+use Rattle.ported_run.specs.declared.Last.{Last}
+use Rattle.ported_run.specs.declared.Last.the-variants.{None, At}
 use Rattle.bentley_ottmann.specs.declared.Swept.{Swept}
-use Rattle.bentley_ottmann.specs.Swept.{asLast, refusedWith}
+use Rattle.ported_run.specs.Last.{asLast}
+use Rattle.bentley_ottmann.specs.Swept.{refusedWith}
 use Rattle.promises.specs.Chart.{Accepts, Before}
 use Rattle.promises.specs.Sweep as due
 use Rattle.promises.specs.Sweep.{Outcome, listedIn, Reached, SweepPromises}
 use Rattle.promises.proofs.Refusing.{refusing, listing-decided}
-use Rattle.promises.proofs.Reading.{read-back}
+use Rattle.naive.proofs.Reading.{read-back}
 use Rattle.promises.proofs.AllPairs as pairs
 use Rattle.promises.proofs.Geometry.{less-is, least-alike, chart, meets-exactly, first-least, meeting-exactly, turned-exactly, meeting-once, meeting-many, occurs-exactly}
 

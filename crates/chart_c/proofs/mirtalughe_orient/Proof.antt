@@ -1,38 +1,27 @@
--- `chart_c::mirtalughe_orient` meets its contract: each arm returns the number of its case.
+-- `chart_c::mirtalughe_orient` meets its contract: it returns the number of the turn.
 use borrow.Author.Needs.{needs}
-use mathlib.Core.Path.{_∙_, sym, ap}
+use mathlib.Core.Path.{_∙_, ap}
+use mir.Syntax.{w8}
 use Rattle.integers.proofs.Machine.{m-eq}
 use Rattle.integers.proofs.Tests.{ranged}
+use Rattle.charts.proofs.Numbers.{told}
 use Rattle.orientation.specs.Turn.{det, turnOf}
-use Rattle.chart_c.specs.Numbers.{turnNumber}
+use Rattle.c_records.specs.Numbers.{turnNumber}
 use Rattle.chart_c.proofs.mirtalughe_orient.Statement.{statement}
 use Rattle.chart_c.proofs.mirtalughe_orient.Tie as tie
 
 orient-requires : tie.Need-orient-requires
 orient-requires c κs = search needs
 
-enum-told : tie.Need-enum-told
-enum-told c = search needs
-
-enum-told-2 : tie.Need-enum-told-2
-enum-told-2 c = search needs
-
-enum-told-3 : tie.Need-enum-told-3
-enum-told-3 c = search needs
+turn-number-requires : tie.Need-turn-number-requires
+turn-number-requires c κs = search needs
 
 returns : tie.Need-returns
-unfolding turnNumber det
-returns c = ap turnNumber (sym (c .enum-told .given .1) ∙ c .before .before .orient .ensures ∙ ap turnOf (m-eq (search ranged depth 60 fits 20000) tt))
-
-returns-2 : tie.Need-returns-2
-unfolding turnNumber det
-returns-2 c = ap turnNumber (sym (c .enum-told2 .given .1) ∙ c .before .before .orient .ensures ∙ ap turnOf (m-eq (search ranged depth 60 fits 20000) tt))
-
-returns-3 : tie.Need-returns-3
-unfolding turnNumber det
-returns-3 c = ap turnNumber (sym (c .enum-told3 .given .1) ∙ c .before .before .orient .ensures ∙ ap turnOf (m-eq (search ranged depth 60 fits 20000) tt))
+unfolding det
+returns c =
+    let r = c .turn-number in
+    rw (told w8 (r .result) (r .ok) (r .ensures)) (ap turnNumber (c .before .orient .ensures ∙ ap turnOf (m-eq (search ranged depth 60 fits 20000) tt)))
 
 pub mirtalughe-orient-spec : {M : Type 1} → statement M
 mirtalughe-orient-spec =
-    tie.close
-    (tie.spec orient-requires enum-told enum-told-2 enum-told-3 returns returns-2 returns-3)
+    tie.close (tie.spec orient-requires turn-number-requires returns)
