@@ -67,3 +67,10 @@ pub record LeastLane (table : List ℤ) (active lanes : List ℕ) (live r : ℕ)
 pub record Newer (table : List ℤ) (active : List ℕ) (k key at least : ℕ) (yes : Bool) : Type 0 where
   pub take : yes ≡ true → (key < noKey) × (least < noKey → isLess (pointOrder (meetingAt table active at) (meetingAt table active k)) ≡ false)
   pub leave : yes ≡ false → key < noKey → (least < noKey) × (isLess (pointOrder (meetingAt table active k) (meetingAt table active at)) ≡ false)
+
+-- the first place from `from` on whose key is no greater than `least`, or `live` where all are
+pub record Candidate (lanes : List ℕ) (from live least r : ℕ) : Type 0 where
+  pub begun : from ≤ r
+  pub within : r ≤ live
+  pub greater : (k : ℕ) → from ≤ k → k < r → least < getD lanes k 0
+  pub first : r < live → getD lanes r 0 ≤ least

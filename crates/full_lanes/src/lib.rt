@@ -9,7 +9,7 @@ ghost use Rattle.sweep.specs.Ported.{isLess};
 ghost use Rattle.sweep_geometry.specs.Demand.{Proper};
 ghost use Rattle.ported_pieces.specs.Table.{pieceIn, roughAt};
 ghost use Rattle.full_points.specs.Spot.{ChartPoint, keyOf};
-ghost use Rattle.full_lanes.specs.Lanes.{noKey, keyed, laneIn, examined, ProperPlaces, meetingAt, Taken, Keyed, LeastLane, Newer};
+ghost use Rattle.full_lanes.specs.Lanes.{noKey, keyed, laneIn, examined, ProperPlaces, meetingAt, Taken, Keyed, LeastLane, Newer, Candidate};
 use fractions::Point;
 use full_points::key_of;
 use line_segment::Meeting;
@@ -111,6 +111,21 @@ fn comes_first(table: &[i16], active: &[u8], k: usize, key: u32, at: usize, leas
     less(meeting_at(table, active, k), meeting_at(table, active, at))
 }
 
+// The first place from `from` on whose key is no greater than `least`; `live` where all are.
+fn next_candidate(lanes: &[u32], from: usize, live: usize, least: u32) -> usize
+    requires { ⌜ (from ≤ live) × (live ≤ length (now lanes)) ⌝ }
+    ensures { λ r. ⌜ Candidate (now (lanes .entry)) from live least r ⌝ }
+{
+    let mut k = from;
+    while k < live {
+        if lanes[k] <= least {
+            break;
+        }
+        k += 1;
+    }
+    k
+}
+
 // The lane of the least crossing, or `live` where none is taken.
 pub fn least_lane(table: &[i16], active: &[u8], lanes: &[u32], live: usize) -> usize
     requires { ⌜ Keyed (now table) (now active) (now lanes) live ⌝ }
@@ -118,12 +133,14 @@ pub fn least_lane(table: &[i16], active: &[u8], lanes: &[u32], live: usize) -> u
 {
     let mut at = live;
     let mut least = NONE;
-    for k in 0..live {
+    let mut k = 0;
+    while k < live {
         let key = lanes[k];
         if comes_first(table, active, k, key, at, least) {
             at = k;
             least = key;
         }
+        k = next_candidate(lanes, k + 1, live, least);
     }
     at
 }
