@@ -31,8 +31,8 @@ extern "C" {
 /* ---- version: of what this header says. MAJOR grows where a program that was right may have to change. */
 #define MIRTALUGHE_VERSION_MAJOR 0
 #define MIRTALUGHE_VERSION_MINOR 15
-#define MIRTALUGHE_VERSION_PATCH 2
-#define MIRTALUGHE_VERSION "0.15.2"
+#define MIRTALUGHE_VERSION_PATCH 3
+#define MIRTALUGHE_VERSION "0.15.3"
 
 /* ---- sizes */
 #define MIRTALUGHE_MOST_PIECES 64 /* of a chart */
