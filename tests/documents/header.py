@@ -2,7 +2,8 @@
 
 The refusals are those of docs/CHART.md: the header's enum with what it says of each, the Rust wrapper's enum and sentences, and
 tools/formats.py have the same. The sizes are the header's: the wrapper, the tool, the comparison and docs/CHART.md have the
-same. The structs and calls are those of crates/chart_c/src/lib.rt: the header and the wrapper have them field by field."""
+same. The calls are those of crates/chart_c/src/lib.rt, the structs those of the crates below it: the header and the wrapper have
+them field by field."""
 import pathlib
 import re
 import sys
@@ -172,7 +173,7 @@ def rust_layout(*sources):
 
 def check_layout():
     due = header_layout()
-    proved = rust_layout(text_of("crates/chart_c/src/lib.rt"), text_of("crates/charts/src/lib.rt"), text_of("crates/open_chart/src/lib.rt"))
+    proved = rust_layout(*map(text_of, (f"crates/{name}/src/lib.rt" for name in ("chart_c", "c_records", "charts", "open_chart"))))
     wrapper = rust_layout(text_of("bindings/rust/src/calls.rs"))
     for who, told in (("crates/chart_c/src/lib.rt", proved), ("the wrapper", wrapper)):
         same(f"{who}, calls", sorted(told), sorted(due))

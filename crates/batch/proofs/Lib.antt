@@ -12,5 +12,4 @@ pub mod Reading
 pub mod Single
 pub mod Each
 pub mod Promises
-pub mod Once
 pub mod Examples

@@ -2,14 +2,13 @@
 -- tells fits 64 bits.
 -- Assumes nothing.
 use mathlib.Core.Path.{_≡_, refl, sym, ap, _∙_}
-use mathlib.Core.Logic.{_≢_}
-use mathlib.Core.List.{List, [], _∷_, _++_, map}
+use mathlib.Core.List.{List, [], _∷_, _++_}
 use mathlib.Core.List.{List·Memᴰ as In, List·Memᴰ·head as here, List·Memᴰ·tail as there}
 use mathlib.Core.Option.{Option, none, some}
 use Prim.Native.Nat.{ℕ, zero, suc, _*_, _^_, _≤_, _<_}
 use native.Mathlib.Omega.{arith}
 use lib.IntN.{ℤ, pos, negsuc, natAbs}
-use lib.ListN.{length, take, drop, length-append, length-drop, length-map}
+use lib.ListN.{length, take, drop, length-append, length-drop}
 use lib.Signed.{mag}
 use Rattle.fractions.specs.Point.{Bounded}
 use Rattle.fractions.specs.declared.Point.{Point}
@@ -18,37 +17,20 @@ use Rattle.charts.specs.Answer.{room, listingOf}
 use Rattle.charts.specs.Piece.{pieceAt}
 use Rattle.charts.specs.declared.Verdict.{Verdict}
 use Rattle.charts.specs.declared.Verdict.the-variants.{Accepted, Refused}
-use Rattle.charts.proofs.Room.{room-more, room-none}
 use Rattle.charts.proofs.Listing.{listing-goes}
 use Rattle.naive.specs.Pairs.{bytes, over}
 use Rattle.naive.proofs.Rows.{bytes-length}
-use Rattle.sweep.specs.Lists.{Pair, upto, pairs, last-of, Pairwise}
-use Rattle.sweep.specs.Chart.{Chart}
-use Rattle.sweep.specs.Sought.{all}
-use Rattle.sweep.specs.Demand.{Pieces}
-use Rattle.sweep.proofs.Pairs.{upto-length}
-use Rattle.sweep.proofs.Occurring.{all-in}
-use Rattle.ported_arrays.proofs.Distinct.{distinct-fit}
+use Rattle.sweep.specs.Lists.{Pair, last-of}
+use Rattle.ported_arrays.proofs.Room.{once-twice}
 use Rattle.full_order.specs.Finer.{finer}
 use Rattle.full_steps.specs.Steps.{answer}
 use Rattle.full_order.proofs.Modes.{list-full-sweeps}
 use Rattle.sweep_geometry.proofs.Supply.{reduced}
 use Rattle.sweep_geometry.proofs.Accepted.{list-proper}
-use Rattle.bentley_ottmann.specs.Swept.{asLast}
+use Rattle.ported_run.specs.Last.{asLast}
 use Rattle.full_sweep.specs.Swept.{sweptBy, sweptFor, sweepOf, listedOver, lentFor, lentAfter}
 use Rattle.batch.specs.Single.{largest, sweptAlone, leftAlone}
 use Rattle.batch.proofs.Reading.{FitsLast}
-
--- ---- pairs of n pieces, each once, have room
-pairs-length : (l : List ℕ) → 2 * length (pairs l) ≡ room (length l)
-unfolding pairs
-pairs-length [] = omega (arith, room-none)
-pairs-length (i ∷ l) = omega (arith, room-more (length l), length-append (map (λ j. (i, j)) l) (pairs l), length-map {B = Pair} l (λ j. (i, j)), pairs-length l)
-
-once-fit : (C : Chart) (l : List Pair) → Pairwise (λ q r. q ≢ r) l → ((q : Pair) → In q l → Pieces C q) → 2 * length l ≤ room (C .n)
-unfolding all
-once-fit C l once only =
-    omega (arith, distinct-fit l (all C) once (λ q m. all-in C q (only q m)), pairs-length (upto (C .n)), ap room (upto-length (C .n)))
 
 -- the last of a list is in it
 last-in : {A : Type 0} (l : List A) (p : A) → last-of l ≡ some p → In p l
@@ -76,7 +58,7 @@ taken-in (suc m) (x ∷ l) p (there h) = there (taken-in m l p h)
 listed-fit : (list : List ℤ) (n budget : ℕ) → verdictOf list ≡ Accepted n → 2 * length ((answer (finer n (pieceAt list)) budget) .listed) ≤ room n
 listed-fit list n budget e =
     let P = list-full-sweeps list n e in
-    once-fit (finer n (pieceAt list)) _ (P .lists-once budget) (λ q m. (P .lists-exactly budget q .0 m) .0)
+    omega (arith, once-twice (finer n (pieceAt list)) ((answer (finer n (pieceAt list)) budget) .listed) (P .lists-once budget) (λ q m. (P .lists-exactly budget q .0 m) .0))
 
 -- the last point is an end or a crossing
 last-bounded : (list : List ℤ) (n budget : ℕ) → verdictOf list ≡ Accepted n → (p : Point) → (answer (finer n (pieceAt list)) budget) .last ≡ some p → Bounded p

@@ -12,8 +12,8 @@ use lib.Signed.{mag}
 use Rattle.charts.specs.Chart.{most}
 use Rattle.charts.specs.Answer.{room, doneWith, refusedWith}
 use Rattle.charts.specs.declared.Answer.{Answer}
-use Rattle.bentley_ottmann.specs.declared.Last.{Last}
-use Rattle.bentley_ottmann.specs.declared.Last.the-variants.{None, At}
+use Rattle.ported_run.specs.declared.Last.{Last}
+use Rattle.ported_run.specs.declared.Last.the-variants.{None, At}
 use Rattle.bentley_ottmann.specs.declared.Swept.{Swept}
 use Rattle.batch.specs.Numbers.{word, numbersOf}
 use Rattle.batch.specs.Single.{sweptAlone, leftAlone}

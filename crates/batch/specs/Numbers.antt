@@ -3,8 +3,8 @@ use mathlib.Core.Bool.{Bool, true, false}
 use mathlib.Core.List.{List, [], _∷_}
 use Prim.Native.Nat.{ℕ, _-_}
 use lib.IntN.{ℤ, pos, negsuc}
-use Rattle.bentley_ottmann.specs.declared.Last.{Last}
-use Rattle.bentley_ottmann.specs.declared.Last.the-variants.{None, At}
+use Rattle.ported_run.specs.declared.Last.{Last}
+use Rattle.ported_run.specs.declared.Last.the-variants.{None, At}
 use Rattle.bentley_ottmann.specs.declared.Swept.{Swept}
 
 -- "0 for no, 1 for yes"

@@ -10,7 +10,7 @@ use Rattle.full_sweep.specs.Swept.{sweepOf, lentAfter}
 use Rattle.batch.specs.Single.{largest, sweptAlone, leftAlone}
 use Rattle.batch.proofs.Promises.{each-alone, reads-alone}
 use Rattle.promises.specs.Sweep.{SweepPromises}
-use Rattle.promises.proofs.C.{fewer}
+use Rattle.c_promises.proofs.C.{fewer}
 use Rattle.full_promises.specs.Sweep.{Full, EveryChart}
 use Rattle.full_promises.proofs.Full.{full-promises}
 use Rattle.batch_promises.specs.Sweep.{InBatch}

@@ -15,8 +15,8 @@ use Rattle.charts.specs.declared.Verdict.the-variants.{Accepted, Refused}
 use Rattle.charts.proofs.Exactly.{refuses-exactly}
 use Rattle.charts.proofs.Accepted.{accepted-most, pieces-have-length}
 use Rattle.charts.specs.Piece.{pieceAt, noUpright}
-use Rattle.naive.specs.Pairs.{bytes, over}
-use Rattle.sweep.specs.Lists.{Pair, upto, any}
+use Rattle.naive.specs.Pairs.{over}
+use Rattle.sweep.specs.Lists.{upto, any}
 use Rattle.sweep.specs.Chart.{Chart}
 use Rattle.sweep.specs.State.{State}
 use Rattle.sweep.specs.State.{start as begin}
@@ -26,7 +26,7 @@ use Rattle.sweep.specs.Run.{onwards as going}
 use Rattle.sweep.specs.Ported.{isUpright}
 use Rattle.ported_arrays.specs.Event.{Sheet}
 use Rattle.ported_arrays.specs.Run.{next, onwards, start}
-use Rattle.ported_arrays.specs.Agreement.{flat, Agrees}
+use Rattle.ported_arrays.specs.Agreement.{Agrees}
 use Rattle.ported_arrays.proofs.Flat.{flat-length}
 use Rattle.ported_arrays.proofs.Nexts.{next-agrees}
 use Rattle.sweep_geometry.proofs.Accepted.{upright-same}
@@ -34,17 +34,12 @@ use Rattle.ported_pieces.specs.Table.{pieceIn, chartIn}
 use Rattle.ported_table.specs.Filled.{filled}
 use Rattle.ported_pieces.proofs.Ordering.{ordered}
 use Rattle.ported_table.proofs.Filling.{filled-pieces}
-use Rattle.bentley_ottmann.specs.declared.run.Stop.{Stop}
+use Rattle.ported_run.specs.declared.Stop.{Stop}
 use Rattle.bentley_ottmann.specs.declared.Swept.{Swept}
-use Rattle.bentley_ottmann.specs.Swept.{asLast, sweptBy, listedOver, refusedWith, sweepOf, lentAfter}
-use Rattle.bentley_ottmann.specs.Running.{places, Stopped}
-use Rattle.bentley_ottmann.proofs.Agreeing.{has-room, agrees}
-
--- ---- the two words for the bytes of a list of pairs
-pub flat-is : (l : List Pair) → flat l ≡ bytes l
-unfolding flat bytes
-flat-is [] = refl
-flat-is (q ∷ l) = ap (λ (m : List ℕ). q .0 ∷ q .1 ∷ m) (flat-is l)
+use Rattle.ported_run.specs.Last.{asLast}
+use Rattle.bentley_ottmann.specs.Swept.{sweptBy, listedOver, refusedWith, sweepOf, lentAfter}
+use Rattle.ported_run.specs.Running.{places, Stopped}
+use Rattle.ported_run.proofs.Agreeing.{has-room, agrees}
 
 -- ---- the two tests for a chart with no upright piece
 any-append : (f : ℕ → Bool) (l m : List ℕ) → any f (l ++ m) ≡ (any f l || any f m)
@@ -105,7 +100,7 @@ module _ (n : ℕ) (table : List ℤ) (lent : List ℕ) (few : n ≤ most) (long
 
   pub leaves : after ≡ listedOver n (pieceIn table) budget lent
   unfolding listedOver over answer answer-of run
-  leaves = S .bytes-are ∙ A .holds .bytes-are ∙ ap (λ (l : List ℕ). l ++ drop (length l) lent) (flat-is (reached .marks .listed))
+  leaves = S .bytes-are ∙ A .holds .bytes-are
 
 -- ---- an accepted list
 module _ (list : List ℤ) (n : ℕ) (e : verdictOf list ≡ Accepted n) where

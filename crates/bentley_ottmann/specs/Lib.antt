@@ -1,4 +1,3 @@
--- What the sweep's call answers (`Swept`), and what its run tells (`Running`).
+-- What the sweep's call answers.
 -- In quotation marks: docs/CHART.md, budget, answer of a sweep, refusal, room.
 pub mod Swept
-pub mod Running

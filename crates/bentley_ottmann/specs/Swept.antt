@@ -1,11 +1,9 @@
 -- What the sweep's call returns, and what it leaves in the lent bytes.
 use mathlib.Core.Bool.{false}
 use mathlib.Core.List.{List}
-use mathlib.Core.Option.{Option, none, some}
 use Prim.Native.Nat.{ℕ}
 use lib.IntN.{ℤ}
 use lib.ListN.{length}
-use Rattle.fractions.specs.declared.Point.{Point}
 use Rattle.line_segment.specs.declared.LineSegment.{LineSegment}
 use Rattle.charts.specs.Answer.{listingOf}
 use Rattle.charts.specs.Piece.{pieceAt}
@@ -15,14 +13,9 @@ use Rattle.naive.specs.Pairs.{bytes, over}
 use Rattle.sweep.specs.Ported.{ported}
 use Rattle.sweep.specs.Run.{Answer, answer}
 use Rattle.examinations.specs.Examined.{examined as examinedBy}
-use Rattle.bentley_ottmann.specs.declared.Last.{Last}
-use Rattle.bentley_ottmann.specs.declared.Last.the-variants.{None, At}
+use Rattle.ported_run.specs.declared.Last.the-variants.{None}
+use Rattle.ported_run.specs.Last.{asLast}
 use Rattle.bentley_ottmann.specs.declared.Swept.{Swept}
-
--- "the last point, or none after zero steps"
-abbrev pub asLast : Option Point → Last
-asLast none = None
-asLast (some p) = At p
 
 module _ (n : ℕ) (piece : ℕ → LineSegment) where
   -- "It returns pairs listed, steps done (the lesser of budget and steps to the empty queue), whether the queue is

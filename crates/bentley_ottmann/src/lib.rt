@@ -1,6 +1,4 @@
 // Module 6, the sweep, after the Rust's bentley_ottmann.rs: a chart's pieces swept from left to right.
-mod run;
-
 ghost use mathlib.Core.Path.{_≡_};
 ghost use Prim.Native.Nat.{_≤_};
 ghost use lib.ListN.{length};
@@ -11,13 +9,7 @@ ghost use Rattle.charts.specs.declared.Verdict.the-variants.{Accepted};
 ghost use Rattle.bentley_ottmann.specs.Swept.{sweptBy, listedOver, refusedWith, sweepOf, lentAfter};
 use charts::MOST;
 use charts::Verdict;
-use fractions::Point;
-
-// The last point visited, or none.
-pub enum Last {
-    None,
-    At(Point),
-}
+use ported_run::Last;
 
 // What a sweep returns; `pairs` is the count of those listed.
 pub struct Swept {
@@ -35,7 +27,8 @@ pub struct Swept {
     pub examined: u64,
 }
 
-fn refused(number: u8, place: usize) -> Swept
+// A refusal, in either mode.
+pub fn refused(number: u8, place: usize) -> Swept
     ensures { λ r. ⌜ r ≡ refusedWith number place ⌝ }
 {
     Swept {
@@ -57,7 +50,7 @@ fn sweep_pieces(list: &[i32], n: usize, budget: u32, pairs: &mut [u8]) -> Swept
 {
     let mut table = [0i16; 5 * MOST];
     ported_table::fill(list, n, &mut table);
-    let stop = run::run(&table, n, budget, pairs);
+    let stop = ported_run::run(&table, n, budget, pairs);
     let complete = charts::no_upright(list, n);
     let last = stop.last;
     Swept {

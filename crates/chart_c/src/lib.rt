@@ -20,110 +20,32 @@ ghost use Rattle.folded_line.specs.Drawing.{Draws};
 ghost use Rattle.plain_order.specs.Plain.{plainOf};
 ghost use Rattle.plain_order.specs.Plain.{lentAfter as orderedAfter};
 ghost use Rattle.batch.specs.Batch.{Batches};
-ghost use Rattle.chart_c.specs.Sweeps.{sweptAs, sweptFields};
-ghost use Rattle.chart_c.specs.Checks.{checkedAs};
-ghost use Rattle.chart_c.specs.Numbers.{turnNumber, orderNumber, pointOf};
-ghost use Rattle.chart_c.specs.Meetings.{noEnd, endFields, metAs, fieldsOf};
-ghost use Rattle.chart_c.specs.Places.{placedAs, placedOf};
+ghost use Rattle.c_records.specs.Sweeps.{sweptFields};
+ghost use Rattle.c_records.specs.Checks.{checkedAs};
+ghost use Rattle.c_records.specs.Numbers.{turnNumber, orderNumber, pointOf};
+ghost use Rattle.c_records.specs.Meetings.{fieldsOf};
+ghost use Rattle.c_records.specs.Places.{placedOf};
 ghost use Rattle.half_line.specs.Call.{halfLineAnswerOf};
 ghost use Rattle.region.specs.Region.{regionAnswerOf};
-ghost use Rattle.chart_c.specs.Regions.{regionNumber, locatedOf, halfMetAs, halfMetOf};
-use bentley_ottmann::Last;
-use bentley_ottmann::Swept;
+ghost use Rattle.c_records.specs.Regions.{locatedOf, halfMetOf};
+use c_records::CheckedFields;
+use c_records::HalfMet;
+use c_records::Located;
+use c_records::Met;
+use c_records::Placed;
+use c_records::SweptFields;
 use charts::Answer;
 use fractions::Order;
 use fractions::Point;
-use half_line::IHalfLineLineSegmentSoS;
-use line_segment::EndPoint;
-use line_segment::Meeting;
 use open_chart::Changed;
 use orientation::Orientation;
-use place::Place;
-use region::Region;
-use supplied::Checked;
-
-// An end of a stretch.
-#[repr(C)]
-pub struct End {
-    pub x: i16,
-    pub y: i16,
-    pub included: bool,
-}
-
-// How two pieces meet: `meets` is 0 for nothing, 1 for a crossing and 2 for an overlap, whose stretch runs from
-// `min` to `max`.
-#[repr(C)]
-pub struct Met {
-    pub number: u8,
-    pub place: usize,
-    pub meets: u8,
-    pub min: End,
-    pub max: End,
-}
-
-// Where two pieces meet, in binary64: `meets` is 0 for nothing, 1 at x1, y1, the one shared point, and 2 along from
-// there to x2, y2.
-#[repr(C)]
-pub struct Placed {
-    pub number: u8,
-    pub place: usize,
-    pub meets: u8,
-    pub x1: f64,
-    pub y1: f64,
-    pub x2: f64,
-    pub y2: f64,
-}
-
-// What a sweep returns; where `visited`, the last point is x/d, y/d.
-#[repr(C)]
-pub struct SweptFields {
-    pub number: u8,
-    pub place: usize,
-    pub pairs: usize,
-    pub steps: u32,
-    pub ended: bool,
-    pub complete: bool,
-    pub visited: bool,
-    pub x: i64,
-    pub y: i64,
-    pub d: u64,
-    pub examined: u64,
-}
-
-// What is said of a supplier's list: `says` is 1 where it is accepted, 2 where entry `first` has fault `second`, and 3
-// where the pair of pieces `first` and `second` is missing.
-#[repr(C)]
-pub struct CheckedFields {
-    pub number: u8,
-    pub place: usize,
-    pub says: u8,
-    pub first: usize,
-    pub second: usize,
-}
-
-// Where a peak lies to a region: `region` is 0 for none, 1 for on, 2 for inside and 3 for outside.
-#[repr(C)]
-pub struct Located {
-    pub number: u8,
-    pub place: usize,
-    pub region: u8,
-}
-
-// How a half-line meets a piece: `meets` is 0 for nothing and 1 for a crossing, which carries `turn`.
-#[repr(C)]
-pub struct HalfMet {
-    pub number: u8,
-    pub place: usize,
-    pub meets: u8,
-    pub turn: i8,
-}
 
 // Which way the three points turn, as its number.
 #[no_mangle]
 pub extern "C" fn mirtalughe_orient(x1: i16, y1: i16, x2: i16, y2: i16, x3: i16, y3: i16) -> i8
     ensures { λ r. ⌜ r ≡ turnNumber (turnOf (det x1 y1 x2 y2 x3 y3)) ⌝ }
 {
-    turn_number(orientation::orient(x1, y1, x2, y2, x3, y3))
+    c_records::turn_number(orientation::orient(x1, y1, x2, y2, x3, y3))
 }
 
 // Which of the points x1/d1, y1/d1 and x2/d2, y2/d2 comes first, as its number.
@@ -176,55 +98,7 @@ pub extern "C" fn mirtalughe_write(list: &[i32], file: &mut [u8]) -> Answer
 pub extern "C" fn mirtalughe_fold(m: u32, h: u32, s: u32, list: &mut [i32]) -> Answer
     ensures { λ r. ⌜ Draws m h s (now (list .entry)) r (now (list .exit)) ⌝ }
 {
-    folded_line::draw(m as usize, h as usize, s as usize, list)
-}
-
-fn end_of(e: EndPoint) -> End
-    ensures { λ r. ⌜ r ≡ endFields e ⌝ }
-{
-    End {
-        x: e.x,
-        y: e.y,
-        included: e.included,
-    }
-}
-
-fn no_end() -> End
-    ensures { λ r. ⌜ r ≡ noEnd ⌝ }
-{
-    End {
-        x: 0,
-        y: 0,
-        included: false,
-    }
-}
-
-fn fields(number: u8, place: usize, meeting: Meeting) -> Met
-    ensures { λ r. ⌜ r ≡ metAs number place meeting ⌝ }
-{
-    match meeting {
-        Meeting::Nothing => Met {
-            number,
-            place,
-            meets: 0,
-            min: no_end(),
-            max: no_end(),
-        },
-        Meeting::Crossing => Met {
-            number,
-            place,
-            meets: 1,
-            min: no_end(),
-            max: no_end(),
-        },
-        Meeting::Overlap(stretch) => Met {
-            number,
-            place,
-            meets: 2,
-            min: end_of(stretch.min),
-            max: end_of(stretch.max),
-        },
-    }
+    line_drawing::draw(m as usize, h as usize, s as usize, list)
 }
 
 // How the two pieces of ten numbers meet, the first one asking.
@@ -234,41 +108,7 @@ pub extern "C" fn mirtalughe_meeting(list: &[i32]) -> Met
 {
     let answer = charts::meeting_of(list);
     let meeting = answer.meeting;
-    fields(answer.number, answer.place, meeting)
-}
-
-fn values(number: u8, place: usize, meeting: Place) -> Placed
-    ensures { λ r. ⌜ r ≡ placedAs number place meeting ⌝ }
-{
-    match meeting {
-        Place::Nothing => Placed {
-            number,
-            place,
-            meets: 0,
-            x1: 0.0,
-            y1: 0.0,
-            x2: 0.0,
-            y2: 0.0,
-        },
-        Place::At(p) => Placed {
-            number,
-            place,
-            meets: 1,
-            x1: p.x,
-            y1: p.y,
-            x2: 0.0,
-            y2: 0.0,
-        },
-        Place::Along(p, q) => Placed {
-            number,
-            place,
-            meets: 2,
-            x1: p.x,
-            y1: p.y,
-            x2: q.x,
-            y2: q.y,
-        },
-    }
+    c_records::fields(answer.number, answer.place, meeting)
 }
 
 // Where the two pieces of ten numbers meet.
@@ -278,7 +118,7 @@ pub extern "C" fn mirtalughe_place(list: &[i32]) -> Placed
 {
     let answer = place::pair_place(list);
     let meeting = answer.meeting;
-    values(answer.number, answer.place, meeting)
+    c_records::values(answer.number, answer.place, meeting)
 }
 
 // Every pair of a chart's pieces that meet, two bytes a pair.
@@ -294,40 +134,7 @@ pub extern "C" fn mirtalughe_all_pairs(list: &[i32], pairs: &mut [u8]) -> Answer
 pub extern "C" fn mirtalughe_plain_order(list: &[i32], pairs: &mut [u8]) -> Answer
     ensures { λ r. ⌜ (r ≡ plainOf (now (list .entry)) (length (now (pairs .entry)))) × (now (pairs .exit) ≡ orderedAfter (now (list .entry)) (now (pairs .entry))) ⌝ }
 {
-    plain_order::plain_order(list, pairs)
-}
-
-fn swept_fields(s: Swept, last: Last) -> SweptFields
-    ensures { λ r. ⌜ r ≡ sweptAs s last ⌝ }
-{
-    match last {
-        Last::None => SweptFields {
-            number: s.number,
-            place: s.place,
-            pairs: s.pairs,
-            steps: s.steps,
-            ended: s.ended,
-            complete: s.complete,
-            visited: false,
-            x: 0,
-            y: 0,
-            d: 0,
-            examined: s.examined,
-        },
-        Last::At(p) => SweptFields {
-            number: s.number,
-            place: s.place,
-            pairs: s.pairs,
-            steps: s.steps,
-            ended: s.ended,
-            complete: s.complete,
-            visited: true,
-            x: p.x,
-            y: p.y,
-            d: p.d,
-            examined: s.examined,
-        },
-    }
+    order_pairs::plain_order(list, pairs)
 }
 
 // Sweeps a chart's pieces as the Rust does, at most `budget` steps.
@@ -337,7 +144,7 @@ pub extern "C" fn mirtalughe_sweep(list: &[i32], budget: u32, pairs: &mut [u8]) 
 {
     let swept = bentley_ottmann::sweep(list, budget, pairs);
     let last = swept.last;
-    swept_fields(swept, last)
+    c_records::swept_fields(swept, last)
 }
 
 // Sweeps a chart's pieces in the new mode, at most `budget` steps: no pair is lost, with upright pieces or without.
@@ -347,7 +154,7 @@ pub extern "C" fn mirtalughe_full_sweep(list: &[i32], budget: u32, pairs: &mut [
 {
     let swept = full_sweep::sweep(list, budget, pairs);
     let last = swept.last;
-    swept_fields(swept, last)
+    c_records::swept_fields(swept, last)
 }
 
 // Sweeps each of several charts with the largest budget; their lists stand end to end.
@@ -360,42 +167,7 @@ pub extern "C" fn mirtalughe_sweep_batch(
 ) -> Answer
     ensures { λ r. ⌜ Batches (now (list .entry)) (now (lengths .entry)) (now (pairs .entry)) (now (results .entry)) r (now (pairs .exit)) (now (results .exit)) ⌝ }
 {
-    batch::sweep_batch(list, lengths, pairs, results)
-}
-
-fn checked_fields(checked: Checked) -> CheckedFields
-    ensures { λ r. ⌜ r ≡ checkedAs checked ⌝ }
-{
-    match checked {
-        Checked::Accepted => CheckedFields {
-            number: 0,
-            place: 0,
-            says: 1,
-            first: 0,
-            second: 0,
-        },
-        Checked::Fault(i, fault) => CheckedFields {
-            number: 0,
-            place: 0,
-            says: 2,
-            first: i,
-            second: fault,
-        },
-        Checked::Missing(a, b) => CheckedFields {
-            number: 0,
-            place: 0,
-            says: 3,
-            first: a,
-            second: b,
-        },
-        Checked::Refused(number, place) => CheckedFields {
-            number,
-            place,
-            says: 0,
-            first: 0,
-            second: 0,
-        },
-    }
+    sweep_batch::sweep_batch(list, lengths, pairs, results)
 }
 
 // Whether a list of pairs names each meeting pair of a chart once, and if not, where it is wrong.
@@ -403,28 +175,7 @@ fn checked_fields(checked: Checked) -> CheckedFields
 pub extern "C" fn mirtalughe_check(list: &[i32], pairs: &[u8]) -> CheckedFields
     ensures { λ r. ⌜ r ≡ checkedAs (checkedOf (now (list .entry)) (now (pairs .entry))) ⌝ }
 {
-    checked_fields(supplied::check(list, pairs))
-}
-
-fn turn_number(o: Orientation) -> i8
-    ensures { λ r. ⌜ r ≡ turnNumber o ⌝ }
-{
-    match o {
-        Orientation::CounterClockWise => 1,
-        Orientation::ClockWise => -1,
-        Orientation::CoLinear => 0,
-    }
-}
-
-fn region_number(r: Region) -> u8
-    ensures { λ n. ⌜ n ≡ regionNumber r ⌝ }
-{
-    match r {
-        Region::None => 0,
-        Region::On => 1,
-        Region::Inside => 2,
-        Region::Outside => 3,
-    }
+    c_records::checked_fields(supplied_check::check(list, pairs))
 }
 
 // Where the peak x, y lies to the region of an outline, two numbers a corner.
@@ -432,31 +183,12 @@ fn region_number(r: Region) -> u8
 pub extern "C" fn mirtalughe_region(outline: &[i32], x: i32, y: i32) -> Located
     ensures { λ r. ⌜ r ≡ locatedOf (regionAnswerOf (now (outline .entry)) x y) ⌝ }
 {
-    let answer = region::locate(outline, x, y);
+    let answer = peak_in_region::locate(outline, x, y);
     let region = answer.region;
     Located {
         number: answer.number,
         place: answer.place,
-        region: region_number(region),
-    }
-}
-
-fn half_met(number: u8, meeting: IHalfLineLineSegmentSoS) -> HalfMet
-    ensures { λ r. ⌜ r ≡ halfMetAs number meeting ⌝ }
-{
-    match meeting {
-        IHalfLineLineSegmentSoS::Nothing => HalfMet {
-            number,
-            place: 0,
-            meets: 0,
-            turn: 0,
-        },
-        IHalfLineLineSegmentSoS::Crossing(o) => HalfMet {
-            number,
-            place: 0,
-            meets: 1,
-            turn: turn_number(o),
-        },
+        region: c_records::region_number(region),
     }
 }
 
@@ -477,7 +209,7 @@ pub extern "C" fn mirtalughe_half_line(
 {
     let answer = half_line::asked(kind, x1, y1, x2, y2, x, y, tx, ty);
     let meeting = answer.meeting;
-    half_met(answer.number, meeting)
+    c_records::half_met(answer.number, meeting)
 }
 
 // Makes an open chart without pieces.
@@ -485,7 +217,7 @@ pub extern "C" fn mirtalughe_half_line(
 pub extern "C" fn mirtalughe_open_empty(chart: &mut [i32]) -> Answer
     ensures { λ r. ⌜ (r ≡ emptyingOf (now (chart .entry))) × (now (chart .exit) ≡ afterEmptying (now (chart .entry))) ⌝ }
 {
-    open_chart::empty(chart)
+    open_changes::empty(chart)
 }
 
 // Adds a piece at the lowest free place of an open chart.
@@ -500,7 +232,7 @@ pub extern "C" fn mirtalughe_open_add(
 ) -> Changed
     ensures { λ r. ⌜ (r ≡ changedOf (adding (now (chart .entry)) (five kind x1 y1 x2 y2))) × (now (chart .exit) ≡ afterAdding (now (chart .entry)) (five kind x1 y1 x2 y2)) ⌝ }
 {
-    open_chart::add(chart, kind, x1, y1, x2, y2)
+    open_changes::add(chart, kind, x1, y1, x2, y2)
 }
 
 // Drops the piece of a number from an open chart.
@@ -508,7 +240,7 @@ pub extern "C" fn mirtalughe_open_add(
 pub extern "C" fn mirtalughe_open_drop(chart: &mut [i32], piece: usize) -> Changed
     ensures { λ r. ⌜ (r ≡ changedOf (dropping (now (chart .entry)) piece)) × (now (chart .exit) ≡ afterDropping (now (chart .entry)) piece) ⌝ }
 {
-    open_chart::drop(chart, piece)
+    open_changes::drop(chart, piece)
 }
 
 // How many places of an open chart are used.
@@ -516,7 +248,7 @@ pub extern "C" fn mirtalughe_open_drop(chart: &mut [i32], piece: usize) -> Chang
 pub extern "C" fn mirtalughe_open_used(chart: &[i32]) -> Answer
     ensures { λ r. ⌜ r ≡ usedOf (now (chart .entry)) ⌝ }
 {
-    open_chart::used(chart)
+    open_pairs::used(chart)
 }
 
 // Every pair of an open chart's pieces that meet, under the numbers of their places.
@@ -524,5 +256,5 @@ pub extern "C" fn mirtalughe_open_used(chart: &[i32]) -> Answer
 pub extern "C" fn mirtalughe_open_pairs(chart: &[i32], pairs: &mut [u8]) -> Answer
     ensures { λ r. ⌜ (r ≡ openPairsOf (now (chart .entry)) (length (now (pairs .entry)))) × (now (pairs .exit) ≡ openAfter (now (chart .entry)) (now (pairs .entry))) ⌝ }
 {
-    open_chart::all_pairs(chart, pairs)
+    open_pairs::all_pairs(chart, pairs)
 }

@@ -152,9 +152,9 @@ pub fn refused(number: u8, place: usize) -> Answer
     }
 }
 
-// Two bytes for each pair of n pieces.
-fn room_of(n: usize) -> usize
-    requires { ⌜ n ≤ most ⌝ }
+// Two bytes for each pair of n pieces, however many a call may ever take.
+pub fn room_of(n: usize) -> usize
+    requires { ⌜ n ≤ 65536 ⌝ }
     ensures { λ r. ⌜ r ≡ room n ⌝ }
 {
     if n == 0 {

@@ -19,4 +19,3 @@ pub mod Numbers
 pub mod Holding
 pub mod Promises
 pub mod Examples
-pub mod Once

@@ -12,7 +12,8 @@ use Rattle.charts.specs.declared.Answer.{Answer}
 use Rattle.charts.specs.declared.Verdict.the-variants.{Accepted, Refused}
 use Rattle.folded_line.specs.Line.{count, fives, line}
 use Rattle.folded_line.specs.Drawing.{mostPieces, drawingOf, Draws, Sized}
-use Rattle.folded_line.proofs.Stores.{fives-length, sets-front}
+use Rattle.charts.proofs.Stores.{sets-front}
+use Rattle.folded_line.proofs.Stores.{fives-length}
 use Rattle.folded_line.proofs.Verdicts.{goes, sized, room-goes}
 
 module _ (m h s : ℕ) (lent : List ℤ) where

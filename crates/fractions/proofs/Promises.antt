@@ -1,6 +1,7 @@
 -- The promises of specs/Demand.antt, kept.
 use mathlib.Core.Path.{sym, _∙_}
-use Rattle.fractions.specs.Demand.{OneResult, GcdIsGreatest, OrdersPoints, LowestTerms, PencilAndPaper}
+use Rattle.integers.specs.Outcome.{OneResult}
+use Rattle.fractions.specs.Demand.{GcdIsGreatest, OrdersPoints, LowestTerms, PencilAndPaper}
 use Rattle.fractions.proofs.Euclid.{gcd-greatest}
 use Rattle.fractions.proofs.Turns.{last-says, lines-few, lines-on-a-chart}
 use Rattle.fractions.proofs.Points.{point-itself, point-turned, point-trans, point-alike}

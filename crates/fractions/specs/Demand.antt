@@ -11,10 +11,6 @@ use Rattle.fractions.specs.Point.{Lowest, Bounded, pointOrder, lowestOf,
 use Rattle.fractions.specs.declared.Order.the-variants.{Less, Equal}
 use Rattle.fractions.specs.declared.Point.{Point}
 
--- "For each input .. it allows one result": of a function's `ensures`, over its lifetimes, arguments, result and parameters at exit
-abbrev pub OneResult : {K A R S : Type 0} → (K → A → R → S → Type 0) → Type 0
-OneResult {K} {A} {R} {S} Ensures = (κs : K) (a : A) (x y : R) (s t : S) → Ensures κs a x s → Ensures κs a y t → x ≡ y
-
 -- the greatest common divisor divides both numbers, and every number that does divides it
 abbrev pub GcdIsGreatest : Type 0
 GcdIsGreatest = (a b : ℕ) → Greatest a b (gcdOf a b)

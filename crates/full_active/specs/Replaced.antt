@@ -4,10 +4,7 @@ use mathlib.Core.List.{List, _++_}
 use Prim.Native.Nat.{ℕ, _+_, _-_, _≤_}
 use lib.ListN.{length, take, replicate}
 use lib.Seq.{slice}
-
--- the key of a lane that is not taken
-abbrev pub noLane : ℕ
-noLane = 4294967295
+use Rattle.full_lanes.specs.Lanes.{noKey}
 
 -- there is room to move the places from hi up to `live` so that they begin at `to`
 pub record Movable (active lanes : List ℕ) (live hi to : ℕ) : Type 0 where
@@ -20,4 +17,4 @@ pub record Movable (active lanes : List ℕ) (live hi to : ℕ) : Type 0 where
 pub record Replaced (active lanes : List ℕ) (live lo hi : ℕ) (fresh : List ℕ) (m : ℕ) (active′ lanes′ : List ℕ) (live′ : ℕ) : Type 0 where
   pub count : live′ ≡ lo + m + (live - hi)
   pub pieces-are : take live′ active′ ≡ take lo active ++ (take m fresh ++ slice hi live active)
-  pub lanes-are : take live′ lanes′ ≡ take lo lanes ++ (replicate m noLane ++ slice hi live lanes)
+  pub lanes-are : take live′ lanes′ ≡ take lo lanes ++ (replicate m noKey ++ slice hi live lanes)

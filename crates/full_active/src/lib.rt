@@ -5,7 +5,6 @@ mod moves;
 mod parts;
 mod ranks;
 
-pub use moves::NONE;
 pub use moves::replace;
 pub use parts::search;
 pub use parts::starts;

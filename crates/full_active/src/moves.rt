@@ -4,10 +4,9 @@ ghost use mathlib.Core.Path.{_≡_};
 ghost use Prim.Native.Nat.{_+_, _-_, _≤_, _<_};
 ghost use lib.ListN.{length, drop, replicate};
 ghost use lib.Seq.{paste};
-ghost use Rattle.full_active.specs.Replaced.{Movable, Replaced, noLane};
-
-// A lane that is not taken.
-pub const NONE: u32 = 4294967295;
+ghost use Rattle.full_active.specs.Replaced.{Movable, Replaced};
+ghost use Rattle.full_lanes.specs.Lanes.{noKey};
+use full_lanes::NONE;
 
 // The places from hi up to `live`, moved down so that they begin at `to`.
 fn shift_down(active: &mut [u8], lanes: &mut [u32], live: usize, hi: usize, to: usize)
@@ -49,7 +48,7 @@ fn shift(active: &mut [u8], lanes: &mut [u32], live: usize, hi: usize, to: usize
 // The first m new pieces from place lo on, none of them with a lane.
 fn write(active: &mut [u8], lanes: &mut [u32], lo: usize, fresh: &[u8], m: usize)
     requires { ⌜ (lo + m ≤ length (now active)) × (length (now lanes) ≡ length (now active)) × (m ≤ length (now fresh)) ⌝ }
-    ensures { λ _. ⌜ (now (active .exit) ≡ paste (now (active .entry)) lo (now (fresh .entry)) m) × (now (lanes .exit) ≡ paste (now (lanes .entry)) lo (replicate m noLane) m) ⌝ }
+    ensures { λ _. ⌜ (now (active .exit) ≡ paste (now (active .entry)) lo (now (fresh .entry)) m) × (now (lanes .exit) ≡ paste (now (lanes .entry)) lo (replicate m noKey) m) ⌝ }
 {
     for k in 0..m {
         active[lo + k] = fresh[k];

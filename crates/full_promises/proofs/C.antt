@@ -3,8 +3,8 @@
 use mathlib.Core.Path.{refl}
 use denote.Ref.{now}
 use Rattle.chart_c.proofs.mirtalughe_full_sweep.Reads as sweep-c
-use Rattle.promises.specs.C.{sweptRead, InFields}
-use Rattle.promises.proofs.C.{within-fields, in-fields}
+use Rattle.c_promises.specs.C.{sweptRead, InFields}
+use Rattle.c_promises.proofs.C.{within-fields, in-fields}
 use Rattle.full_promises.specs.Sweep.{Full, EveryChart, FullPromises}
 use Rattle.full_promises.proofs.Full.{full-promises}
 

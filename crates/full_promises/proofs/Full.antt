@@ -26,7 +26,8 @@ use Rattle.full_steps.proofs.Promises.{says-complete as always-complete}
 use Rattle.full_order.specs.Finer.{finerOrder, finer}
 use Rattle.full_order.proofs.Modes.{list-full-sweeps, same-without-uprights}
 use Rattle.bentley_ottmann.specs.declared.Swept.{Swept}
-use Rattle.bentley_ottmann.specs.Swept.{refusedWith, asLast}
+use Rattle.ported_run.specs.Last.{asLast}
+use Rattle.bentley_ottmann.specs.Swept.{refusedWith}
 use Rattle.bentley_ottmann.specs.Swept as ported
 use Rattle.bentley_ottmann.proofs.Answering as ported-call
 use Rattle.full_sweep.specs.Swept.{saying, sweptBy, listedOver, sweepOf, lentAfter}

@@ -1,7 +1,7 @@
 -- The list of the new mode, run to its end, is accepted by the check of a supplier's list, on every chart.
 -- Assumes nothing.
-use Rattle.promises.specs.Supplied.{SweepAccepted}
-use Rattle.promises.proofs.Supplied.{sweep-accepted}
+use Rattle.c_promises.specs.Supplied.{SweepAccepted}
+use Rattle.c_promises.proofs.Supplied.{sweep-accepted}
 use Rattle.full_promises.specs.Sweep.{Full, EveryChart}
 use Rattle.full_promises.proofs.Full.{sweep}
 

@@ -1,27 +1,27 @@
 -- A step has room: the active pieces and those that start are once each pieces of the chart, and so are the pairs listed.
-use mathlib.Core.Path.{_≡_, sym, ap, _∙_}
+use mathlib.Core.Path.{_≡_}
 use mathlib.Core.Logic.{_≢_, ⊎-elim}
 use mathlib.Core.Bool.{true}
 use mathlib.Core.Option.{some}
-use mathlib.Core.List.{List, [], _∷_, _++_, map, List·Memᴰ·append-cases}
+use mathlib.Core.List.{List, _++_, List·Memᴰ·append-cases}
 use mathlib.Core.List.{List·Memᴰ as In}
 use Prim.Native.Nat.{ℕ, _+_, _≤_, _<_}
 use native.Mathlib.Omega.{arith}
-use lib.ListN.{length, length-append, length-map}
+use lib.ListN.{length, length-append}
 use Rattle.charts.specs.Answer.{room}
-use Rattle.charts.proofs.Room.{room-none, room-more}
-use Rattle.sweep.specs.Lists.{Pair, upto, pairs, Pairwise}
+use Rattle.sweep.specs.Lists.{Pair, upto, Pairwise}
 use Rattle.sweep.specs.Chart.{Chart}
 use Rattle.sweep.specs.Step.{starts}
 use Rattle.sweep.specs.Geometry.{Geometry}
 use Rattle.sweep.specs.Demand.{Pieces}
 use Rattle.sweep.proofs.Lists.{pairwise-append}
-use Rattle.sweep.proofs.Pairs.{upto-in, upto-up, upto-length, pairs-in}
+use Rattle.sweep.proofs.Pairs.{upto-in, upto-length}
 use Rattle.sweep.proofs.Ranked.{ranked}
 use Rattle.sweep.proofs.Soonest.{starts-apart}
 use Rattle.ported_arrays.specs.Agreement.{flat}
 use Rattle.ported_arrays.proofs.Distinct.{distinct-fit}
 use Rattle.ported_arrays.proofs.Flat.{flat-length}
+use Rattle.ported_arrays.proofs.Room.{once-twice}
 use Rattle.full_steps.specs.Steps.{State, next}
 use Rattle.full_steps.specs.InPlace.{Sides, InPlaceFacts}
 use Rattle.full_steps.proofs.Step.{Inv}
@@ -44,19 +44,5 @@ module _ (C : Chart) (S : Sides C) (G : Geometry C) (A : InPlaceFacts C S G) (s 
       )
 
 -- ---- the pairs
-pairs-room : (l : List ℕ) → length (pairs l) + length (pairs l) ≡ room (length l)
-unfolding pairs
-pairs-room [] = sym room-none
-pairs-room (i ∷ l) =
-    omega (arith, length-append (map (λ (j : ℕ). (i, j)) l) (pairs l), length-map {B = Pair} l (λ (j : ℕ). (i, j)), pairs-room l, room-more (length l))
-
--- pairs of pieces, each once, have room in what every pair of them has room in
 pub once-fits : (C : Chart) (l : List Pair) → Pairwise (λ q r. q ≢ r) l → ((q : Pair) → In q l → Pieces C q) → length (flat l) ≤ room (C .n)
-once-fits C l once out =
-    omega (
-      arith,
-      flat-length l,
-      pairs-room (upto (C .n)) ∙ ap room (upto-length (C .n)),
-      distinct-fit l (pairs (upto (C .n))) once
-          (λ q m. let v = out q m in pairs-in (upto-up (C .n)) (upto-in (C .n) (q .0) (omega arith)) (upto-in (C .n) (q .1) (v .1)) (v .0)),
-    )
+once-fits C l once out = omega (arith, flat-length l, once-twice C l once out)

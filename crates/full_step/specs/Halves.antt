@@ -13,7 +13,7 @@ use Rattle.ported_arrays.specs.Insertion.{insert-all}
 use Rattle.full_points.specs.declared.Spot.{Spot}
 use Rattle.full_points.specs.Spot.{Marks}
 use Rattle.full_active.specs.Ranks.{risesIn, goesOnIn, backwards, starters, AllBytes}
-use Rattle.full_active.specs.Replaced.{noLane}
+use Rattle.full_lanes.specs.Lanes.{noKey}
 
 -- the block lies in the array, and with the pieces that start it has no more members than a chart has pieces
 pub record InBounds (lo hi : ℕ) (active ends : List ℕ) : Type 0 where
@@ -44,4 +44,4 @@ newBlock table q lo hi active ends = insert-all (risesIn table) [] (keep (goesOn
 -- `new` stands where the pieces from lo up to hi stood, without lanes, and the lanes behind went along
 pub record Turned (active lanes : List ℕ) (live lo hi : ℕ) (new active′ lanes′ : List ℕ) (m : ℕ) : Type 0 where
   pub pieces-are : take (lo + m + (live - hi)) active′ ≡ take lo active ++ (new ++ slice hi live active)
-  pub lanes-are : take (lo + m + (live - hi)) lanes′ ≡ take lo lanes ++ (replicate m noLane ++ slice hi live lanes)
+  pub lanes-are : take (lo + m + (live - hi)) lanes′ ≡ take lo lanes ++ (replicate m noKey ++ slice hi live lanes)

@@ -102,7 +102,8 @@ pub fn step(
     end: usize,
 ) -> At
     requires { ⌜ Steppable (now table) spot (now active) (now lanes) live lo hi (now ends) (now bytes) end ⌝ }
-    ensures { λ r. ⌜ ((q : Point) → Marks spot q → Stepped (now (table .entry)) q p (now (active .entry)) (now (lanes .entry)) live lo hi (now (ends .entry)) (now (bytes .entry)) end (now (active .exit)) (now (lanes .exit)) (now (bytes .exit)) r (newBlock (now (table .entry)) q lo hi (now (active .entry)) (now (ends .entry)))) ⌝ }
+    ensures { λ r. ⌜ ((q : Point) → Marks spot q → Stepped (now (table .entry)) q p (now (active .entry)) (now (lanes .entry)) live lo hi (now (ends .entry)) (now (bytes .entry)) end
+        (now (active .exit)) (now (lanes .exit)) (now (bytes .exit)) r (newBlock (now (table .entry)) q lo hi (now (active .entry)) (now (ends .entry)))) ⌝ }
 {
     let to = report(table, spot, active, lo, hi, ends, bytes, end);
     let m = turn(table, spot, active, lanes, live, lo, hi, ends);

@@ -31,10 +31,10 @@ use Rattle.full_step.specs.Carried.{chart, Given}
 use Rattle.full_step.proofs.Fitting.{once-fits}
 use Rattle.bentley_ottmann.specs.declared.Swept.{Swept}
 use Rattle.bentley_ottmann.specs.Swept.{refusedWith}
-use Rattle.bentley_ottmann.proofs.Answering.{flat-is, its-pieces}
-use Rattle.full_sweep.specs.declared.run.Stop.{Stop}
+use Rattle.bentley_ottmann.proofs.Answering.{its-pieces}
+use Rattle.full_run.specs.declared.Stop.{Stop}
 use Rattle.full_sweep.specs.Swept.{sweptBy, listedOver, sweepOf, lentAfter}
-use Rattle.full_sweep.specs.Running.{Stopped}
+use Rattle.full_run.specs.Running.{Stopped}
 
 -- what the call returns from where its run stops
 abbrev pub told : Stop → Swept
@@ -76,7 +76,7 @@ module _ (n : ℕ) (table : List ℤ) (lent : List ℕ) (K : Given n table lent)
 
   leaves : after ≡ listedOver n (pieceIn table) budget lent
   unfolding listedOver over
-  leaves = S .bytes-are ∙ sets-front lent (flat listed) fits ∙ ap (λ (l : List ℕ). l ++ drop (length l) lent) (flat-is listed)
+  leaves = S .bytes-are ∙ sets-front lent (flat listed) fits
 
 -- ---- an accepted list
 module _ (list : List ℤ) (n : ℕ) (e : verdictOf list ≡ Accepted n) (table : List ℤ) (f : table ≡ filled list n (replicate 320 (pos 0))) (lent : List ℕ) (r : room n ≤ length lent) where

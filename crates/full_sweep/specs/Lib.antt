@@ -1,4 +1,3 @@
--- What the new mode's call answers (`Swept`), and what its run tells (`Running`).
+-- What the new mode's call answers.
 -- In quotation marks: docs/CHART.md, new answer, refusal, room.
 pub mod Swept
-pub mod Running

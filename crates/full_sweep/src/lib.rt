@@ -1,6 +1,4 @@
 // The sweep that loses nothing on any chart, upright pieces or not: a point a step, the active list changed in place.
-mod run;
-
 ghost use mathlib.Core.Path.{_≡_};
 ghost use Prim.Native.Nat.{_≤_};
 ghost use lib.ListN.{length};
@@ -8,27 +6,11 @@ ghost use Rattle.charts.specs.Chart.{verdictOf};
 ghost use Rattle.charts.specs.Answer.{room};
 ghost use Rattle.charts.specs.Piece.{pieceAt};
 ghost use Rattle.charts.specs.declared.Verdict.the-variants.{Accepted};
-ghost use Rattle.bentley_ottmann.specs.Swept.{refusedWith};
 ghost use Rattle.full_sweep.specs.Swept.{sweptBy, listedOver, sweepOf, lentAfter};
-use bentley_ottmann::Last;
 use bentley_ottmann::Swept;
 use charts::MOST;
 use charts::Verdict;
-
-fn refused(number: u8, place: usize) -> Swept
-    ensures { λ r. ⌜ r ≡ refusedWith number place ⌝ }
-{
-    Swept {
-        number,
-        place,
-        pairs: 0,
-        steps: 0,
-        ended: false,
-        complete: false,
-        last: Last::None,
-        examined: 0,
-    }
-}
+use ported_run::Last;
 
 // The sweep of an accepted chart.
 fn sweep_pieces(list: &[i32], n: usize, budget: u32, pairs: &mut [u8]) -> Swept
@@ -37,7 +19,7 @@ fn sweep_pieces(list: &[i32], n: usize, budget: u32, pairs: &mut [u8]) -> Swept
 {
     let mut table = [0i16; 5 * MOST];
     ported_table::fill(list, n, &mut table);
-    let stop = run::run(&table, n, budget, pairs);
+    let stop = full_run::run(&table, n, budget, pairs);
     let last = stop.last;
     Swept {
         number: 0,
@@ -57,7 +39,7 @@ pub fn sweep(list: &[i32], budget: u32, pairs: &mut [u8]) -> Swept
     ensures { λ r. ⌜ (r ≡ sweepOf (now (list .entry)) budget (length (now (pairs .entry)))) × (now (pairs .exit) ≡ lentAfter (now (list .entry)) budget (now (pairs .entry))) ⌝ }
 {
     match charts::listing_of(list, pairs.len()) {
-        Verdict::Refused(number, place) => refused(number, place),
+        Verdict::Refused(number, place) => bentley_ottmann::refused(number, place),
         Verdict::Accepted(n) => sweep_pieces(list, n, budget, pairs),
     }
 }

@@ -1,6 +1,6 @@
 -- "For each input .. it allows one result": of each public function's contract, as the check reads it.
 use mathlib.Core.Path.{sym, _∙_}
-use Rattle.fractions.specs.Demand.{OneResult}
+use Rattle.integers.specs.Outcome.{OneResult}
 use Rattle.half_line.proofs.intersect.Reads as intersect
 use Rattle.half_line.proofs.corner_at.Reads as corner-at
 use Rattle.half_line.proofs.asked.Reads as asked

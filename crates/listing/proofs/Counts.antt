@@ -1,38 +1,31 @@
 -- How many pairs and steps a chart can have: a full sweep is over well before the largest budget.
 -- Assumes nothing.
-use mathlib.Core.Path.{_≡_, refl, ap}
+use mathlib.Core.Path.{_≡_, refl}
 use mathlib.Core.Bool.{true}
-use mathlib.Core.List.{List, [], _∷_, map}
+use mathlib.Core.List.{List}
 use mathlib.Core.List.{List·Memᴰ as In}
 use Prim.Native.Nat.{ℕ, _*_, _≤_}
 use native.Mathlib.Omega.{arith}
 use lib.IntN.{ℤ}
-use lib.ListN.{length, length-append, length-map}
+use lib.ListN.{length}
 use Rattle.charts.specs.Chart.{most, verdictOf}
 use Rattle.charts.specs.Answer.{room}
 use Rattle.charts.specs.Piece.{pieceAt}
 use Rattle.charts.specs.declared.Verdict.the-variants.{Accepted}
 use Rattle.charts.proofs.Accepted.{accepted-most}
-use Rattle.charts.proofs.Room.{room-more, room-none, room-least}
-use Rattle.sweep.specs.Lists.{Pair, upto, pairs}
+use Rattle.charts.proofs.Room.{room-least}
+use Rattle.sweep.specs.Lists.{Pair}
 use Rattle.sweep.specs.Chart.{Chart, meets, kind}
 use Rattle.sweep.specs.Sought.{all, points, meeting}
 use Rattle.sweep.specs.Demand.{Pieces, RunPromises}
 use Rattle.sweep.proofs.Lists.{keep-fewer}
-use Rattle.sweep.proofs.Pairs.{upto-length}
-use Rattle.sweep.proofs.Occurring.{all-in}
-use Rattle.ported_arrays.proofs.Distinct.{distinct-fit}
+use Rattle.ported_arrays.proofs.Room.{all-twice, once-twice}
 use Rattle.full_steps.specs.Steps.{answer}
 use Rattle.full_steps.specs.Demand.{full-run}
 use Rattle.full_order.specs.Finer.{finer}
 use Rattle.full_order.proofs.Modes.{list-full-sweeps}
 use Rattle.listing.specs.Listing.{largest}
 use Rattle.listing.specs.Demand.{SweptToTheEnd}
-
-pairs-length : (l : List ℕ) → 2 * length (pairs l) ≡ room (length l)
-unfolding pairs
-pairs-length [] = omega (arith, room-none)
-pairs-length (i ∷ l) = omega (arith, room-more (length l), length-append (map (λ j. (i, j)) l) (pairs l), length-map {B = Pair} l (λ j. (i, j)), pairs-length l)
 
 most-room : room most ≡ 4032
 unfolding room
@@ -52,17 +45,14 @@ module _ (list : List ℤ) (n : ℕ) (e : verdictOf list ≡ Accepted n) where
   room-few = omega (arith, room-least n most (accepted-most list n e), most-room)
 
   all-few : 2 * length (all C) ≤ 4032
-  unfolding all
-  all-few = omega (arith, pairs-length (upto n), ap room (upto-length n), room-few)
+  all-few = omega (arith, all-twice C, room-few)
 
   meeting-few : 2 * length (meeting C) ≤ 4032
   unfolding meeting
   meeting-few = omega (arith, keep-fewer (λ q. meets (kind C q)) (all C), all-few)
 
   pub listed-few : (budget : ℕ) → 2 * length ((answer C budget) .listed) ≤ 4032
-  listed-few budget =
-      let within : (q : Pair) → In q ((answer C budget) .listed) → In q (all C) = λ q m. all-in C q (lists-only budget q m .0) in
-      omega (arith, distinct-fit ((answer C budget) .listed) (all C) (promises .lists-once budget) within, all-few)
+  listed-few budget = omega (arith, once-twice C ((answer C budget) .listed) (promises .lists-once budget) (λ q m. lists-only budget q m .0), room-few)
 
   pub steps-few : (budget : ℕ) → (answer C budget) .steps ≤ 2144
   steps-few budget = omega (arith, promises .steps-bounded budget, meeting-few, accepted-most list n e)

@@ -1,7 +1,7 @@
 -- What is promised of the list of all pairs.
 use mathlib.Core.Path.{_≡_}
 use mathlib.Core.Logic.{_⊎_, _≢_, _↔_}
-use mathlib.Core.List.{List, [], _∷_}
+use mathlib.Core.List.{List}
 use mathlib.Core.List.{List·Memᴰ as In}
 use Prim.Native.Nat.{ℕ, _<_}
 use lib.IntN.{ℤ}
@@ -9,13 +9,9 @@ use Rattle.line_segment.specs.Demand.{Meet}
 use Rattle.charts.specs.declared.Verdict.the-variants.{Accepted}
 use Rattle.charts.specs.Chart.{verdictOf}
 use Rattle.charts.specs.Piece.{pieceAt}
+pub use Rattle.charts.specs.PairList.{Pairwise}
 use Rattle.naive.specs.Pairs.{Pair}
 use Rattle.naive.specs.AllPairs.{pairsOf}
-
--- every two members, the earlier and the later, stand in a relation
-abbrev pub Pairwise : (Pair → Pair → Type 0) → List Pair → Type 0
-Pairwise R [] = Unit {0}
-Pairwise R (p ∷ ps) = ((q : Pair) → In q ps → R p q) × Pairwise R ps
 
 -- a pair is listed exactly when its two pieces have a common point, the greater number first
 abbrev pub ListsExactly : Type 0

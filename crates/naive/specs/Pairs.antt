@@ -3,10 +3,8 @@ use mathlib.Core.Bool.{Bool, cond}
 use mathlib.Core.List.{List, [], _∷_, _++_}
 use Prim.Native.Nat.{ℕ, zero, suc}
 use lib.ListN.{length, drop}
-
--- two numbers, the greater first
-abbrev pub Pair : Type 0
-Pair = ℕ × ℕ
+pub use Rattle.charts.specs.PairList.{Pair}
+unfoldable pub use Rattle.charts.specs.PairList.{bytes}
 
 -- "For a from 0, for b below a: the pair (a, b), greater number first."
 module _ (meets : ℕ → ℕ → Bool) where
@@ -19,11 +17,6 @@ module _ (meets : ℕ → ℕ → Bool) where
   unfoldable pub rows : ℕ → List Pair
   rows zero = []
   rows (suc a) = rows a ++ row a a
-
--- "two [bytes] a pair"
-unfoldable pub bytes : List Pair → List ℕ
-bytes [] = []
-bytes (p ∷ ps) = p .0 ∷ p .1 ∷ bytes ps
 
 -- "bytes past the last pair keep their values": xs over the front of lent bytes
 unfoldable pub over : List ℕ → List ℕ → List ℕ

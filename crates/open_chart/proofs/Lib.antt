@@ -16,5 +16,4 @@ pub mod Alters
 pub mod Contents
 pub mod Days
 pub mod Promises
-pub mod Once
 pub mod Examples

@@ -1,5 +1,6 @@
 -- "For each input .. it allows one result": of each public function's contract, as the check reads it.
-use mathlib.Core.Path.{_≡_, sym, _∙_}
+use mathlib.Core.Path.{sym, _∙_}
+use Rattle.integers.specs.Outcome.{OneResult}
 use Rattle.orientation.proofs.span.Reads as span
 use Rattle.orientation.proofs.determinant.Reads as determinant
 use Rattle.orientation.proofs.orient.Reads as orient
@@ -8,10 +9,6 @@ use Rattle.orientation.proofs.is_ccw.Reads as is-ccw
 use Rattle.orientation.proofs.is_cw.Reads as is-cw
 use Rattle.orientation.proofs.is_colinear.Reads as is-colinear
 use Rattle.orientation.proofs.same.Reads as same
-
--- over the lifetimes, the arguments, the result and the parameters at exit
-abbrev OneResult : {K A R S : Type 0} → (K → A → R → S → Type 0) → Type 0
-OneResult {K} {A} {R} {S} Ensures = (κs : K) (a : A) (r r′ : R) (s s′ : S) → Ensures κs a r s → Ensures κs a r′ s′ → r ≡ r′
 
 span-once : OneResult span.Post
 span-once κs a r r′ s s′ h k = h ∙ sym k

@@ -1,7 +1,7 @@
 -- Each public function's contract allows one result.
 -- Assumes nothing.
 use mathlib.Core.Path.{sym, _∙_}
-use Rattle.fractions.specs.Demand.{OneResult}
+use Rattle.integers.specs.Outcome.{OneResult}
 use Rattle.place.proofs.exact.Reads as exact
 use Rattle.place.proofs.place_of.Reads as place-of
 use Rattle.place.proofs.pair_place.Reads as pair-place

@@ -14,5 +14,4 @@ pub mod First
 pub mod ByPoints
 pub mod Outcomes
 pub mod Promises
-pub mod Once
 pub mod Examples

@@ -1,4 +1,5 @@
 pub mod Distinct
+pub mod Room
 pub mod Cells
 pub mod Flat
 pub mod Marking

@@ -8,6 +8,8 @@ use mathlib.Core.Option.{some}
 use Prim.Native.Nat.{ℕ, _+_, _*_, _≤_, _<_}
 use lib.ListN.{length, drop}
 use Rattle.charts.specs.Chart.{most}
+-- the bytes of a list of pairs; here `bytes` are those lent
+unfoldable pub use Rattle.charts.specs.PairList.{bytes as flat}
 use Rattle.sweep.specs.Lists.{Pair, among, Pairwise}
 use Rattle.sweep.specs.Chart.{Kind, crosses, Chart, kind, at}
 use Rattle.sweep.specs.Sought.{all}
@@ -17,11 +19,6 @@ use Rattle.sweep.specs.Demand.{Pieces}
 use Rattle.ported_arrays.specs.Numbers.{cell, endOf}
 use Rattle.ported_arrays.specs.Ledger.{Ledger, mark}
 use Rattle.ported_arrays.specs.Event.{Sheet}
-
--- the bytes of a list of pairs
-unfoldable pub flat : List Pair → List ℕ
-flat [] = []
-flat (q ∷ l) = q .0 ∷ q .1 ∷ flat l
 
 -- 0 free, 1 waiting, 2 listed
 unfoldable pub markOf : Marks → Pair → ℕ

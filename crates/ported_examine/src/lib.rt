@@ -1,14 +1,13 @@
 // "Examining skips a listed or waiting pair. An Overlap is listed. A Crossing at or before p is listed, one after p is
 // queued and waits."
-ghost use mathlib.Core.Path.{_≡_};
-ghost use Prim.Native.Nat.{ℕ, _≤_};
+ghost use Prim.Native.Nat.{_≤_};
 ghost use lib.ListN.{length, take};
 ghost use Rattle.ported_pieces.specs.Table.{chartIn};
 ghost use Rattle.sweep.specs.Lists.{adjacent, lesser-first};
 ghost use Rattle.sweep.specs.Step.{each};
 ghost use Rattle.ported_arrays.specs.Ledger.{examine-free, examine};
 ghost use Rattle.sweep.specs.Chart.{crosses, kind};
-ghost use Rattle.ported_ledger.specs.Views.{ledger};
+ghost use Rattle.ported_examine.specs.Examined.{Examined};
 use fractions::Point;
 use line_segment::Meeting;
 use ported_ledger::FREE;
@@ -36,7 +35,8 @@ fn examine_crossing(
     end: usize,
 ) -> Places
     requires { ⌜ (head ≤ length (now waiting)) × (length (now waiting) ≤ 65536) ⌝ }
-    ensures { λ r. ⌜ (r .head ≤ length (now (waiting .entry))) × ((n : ℕ) → ledger (now (marks .exit)) (now (waiting .exit)) (r .head) (now (bytes .exit)) (r .end) ≡ examine-free (chartIn n (now (table .entry))) p crosses (i, j) (ledger (now (marks .entry)) (now (waiting .entry)) head (now (bytes .entry)) end)) ⌝ }
+    ensures { λ r. ⌜ Examined (λ n. examine-free (chartIn n (now (table .entry))) p crosses (i, j))
+        (now (marks .entry)) (now (waiting .entry)) head (now (bytes .entry)) end (now (marks .exit)) (now (waiting .exit)) (now (bytes .exit)) r ⌝ }
 {
     if ported_pieces::crossing_beyond(table, p, i, j) {
         return Places {
@@ -63,7 +63,8 @@ fn examine_free(
     end: usize,
 ) -> Places
     requires { ⌜ (head ≤ length (now waiting)) × (length (now waiting) ≤ 65536) ⌝ }
-    ensures { λ r. ⌜ (r .head ≤ length (now (waiting .entry))) × ((n : ℕ) → ledger (now (marks .exit)) (now (waiting .exit)) (r .head) (now (bytes .exit)) (r .end) ≡ examine-free (chartIn n (now (table .entry))) p (kind (chartIn n (now (table .entry))) (i, j)) (i, j) (ledger (now (marks .entry)) (now (waiting .entry)) head (now (bytes .entry)) end)) ⌝ }
+    ensures { λ r. ⌜ Examined (λ n. examine-free (chartIn n (now (table .entry))) p (kind (chartIn n (now (table .entry))) (i, j)) (i, j))
+        (now (marks .entry)) (now (waiting .entry)) head (now (bytes .entry)) end (now (marks .exit)) (now (waiting .exit)) (now (bytes .exit)) r ⌝ }
 {
     match ported_pieces::test(table, i, j) {
         Meeting::Nothing => Places { head, end },
@@ -88,7 +89,8 @@ fn examine_pair(
     end: usize,
 ) -> Places
     requires { ⌜ (head ≤ length (now waiting)) × (length (now waiting) ≤ 65536) ⌝ }
-    ensures { λ r. ⌜ (r .head ≤ length (now (waiting .entry))) × ((n : ℕ) → ledger (now (marks .exit)) (now (waiting .exit)) (r .head) (now (bytes .exit)) (r .end) ≡ examine (chartIn n (now (table .entry))) p (i, j) (ledger (now (marks .entry)) (now (waiting .entry)) head (now (bytes .entry)) end)) ⌝ }
+    ensures { λ r. ⌜ Examined (λ n. examine (chartIn n (now (table .entry))) p (i, j))
+        (now (marks .entry)) (now (waiting .entry)) head (now (bytes .entry)) end (now (marks .exit)) (now (waiting .exit)) (now (bytes .exit)) r ⌝ }
 {
     if mark_at(marks, cell_of(i, j)) != FREE {
         return Places { head, end };
@@ -109,7 +111,8 @@ fn examine_two(
     end: usize,
 ) -> Places
     requires { ⌜ (head ≤ length (now waiting)) × (length (now waiting) ≤ 65536) ⌝ }
-    ensures { λ r. ⌜ (r .head ≤ length (now (waiting .entry))) × ((n : ℕ) → ledger (now (marks .exit)) (now (waiting .exit)) (r .head) (now (bytes .exit)) (r .end) ≡ examine (chartIn n (now (table .entry))) p (lesser-first a b) (ledger (now (marks .entry)) (now (waiting .entry)) head (now (bytes .entry)) end)) ⌝ }
+    ensures { λ r. ⌜ Examined (λ n. examine (chartIn n (now (table .entry))) p (lesser-first a b))
+        (now (marks .entry)) (now (waiting .entry)) head (now (bytes .entry)) end (now (marks .exit)) (now (waiting .exit)) (now (bytes .exit)) r ⌝ }
 {
     if a < b {
         return examine_pair(table, p, a, b, marks, waiting, head, bytes, end);
@@ -130,7 +133,8 @@ pub fn examine_all(
     end: usize,
 ) -> Places
     requires { ⌜ (live ≤ length (now active)) × (head ≤ length (now waiting)) × (length (now waiting) ≤ 65536) ⌝ }
-    ensures { λ r. ⌜ (r .head ≤ length (now (waiting .entry))) × ((n : ℕ) → ledger (now (marks .exit)) (now (waiting .exit)) (r .head) (now (bytes .exit)) (r .end) ≡ each (examine (chartIn n (now (table .entry))) p) (adjacent (take live (now (active .entry)))) (ledger (now (marks .entry)) (now (waiting .entry)) head (now (bytes .entry)) end)) ⌝ }
+    ensures { λ r. ⌜ Examined (λ n. each (examine (chartIn n (now (table .entry))) p) (adjacent (take live (now (active .entry)))))
+        (now (marks .entry)) (now (waiting .entry)) head (now (bytes .entry)) end (now (marks .exit)) (now (waiting .exit)) (now (bytes .exit)) r ⌝ }
 {
     let mut from = head;
     let mut to = end;

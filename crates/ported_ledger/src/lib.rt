@@ -70,7 +70,8 @@ pub fn wait_pair(
     head: usize,
 ) -> usize
     requires { ⌜ (head ≤ length (now waiting)) × (length (now waiting) ≤ 65536) ⌝ }
-    ensures { λ r. ⌜ (r ≤ length (now (waiting .entry))) × ((n : ℕ) (bytes : List ℕ) (end : ℕ) → ledger (now (marks .exit)) (now (waiting .exit)) r bytes end ≡ wait (chartIn n (now (table .entry))) (i, j) (ledger (now (marks .entry)) (now (waiting .entry)) head bytes end)) ⌝ }
+    ensures { λ r. ⌜ (r ≤ length (now (waiting .entry)))
+        × ((n : ℕ) (bytes : List ℕ) (end : ℕ) → ledger (now (marks .exit)) (now (waiting .exit)) r bytes end ≡ wait (chartIn n (now (table .entry))) (i, j) (ledger (now (marks .entry)) (now (waiting .entry)) head bytes end)) ⌝ }
 {
     let c = cell_of(i, j);
     set_mark(marks, c, WAITING);

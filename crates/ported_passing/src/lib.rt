@@ -5,12 +5,11 @@ ghost use mathlib.Core.List.{[], _∷_};
 ghost use mathlib.Core.Bool.{not};
 ghost use Prim.Native.Nat.{ℕ, _≤_};
 ghost use lib.ListN.{length, set};
-ghost use lib.Seq.{slice};
 ghost use Rattle.ported_pieces.specs.Table.{chartIn};
 ghost use Rattle.sweep.specs.Lists.{keep};
 ghost use Rattle.ported_arrays.specs.Numbers.{end-at, crossing-at};
 ghost use Rattle.ported_arrays.specs.Event.{flag, halves, pieces, are-min, free, free-all};
-ghost use Rattle.ported_passing.specs.Passing.{Passing, standsAt};
+ghost use Rattle.ported_passing.specs.Passing.{standsAt, EndsPassed, CrossingsPassed};
 use charts::MOST;
 use fractions::Point;
 
@@ -74,7 +73,7 @@ pub fn pass_ends(
     finishing: &mut [u8],
 ) -> usize
     requires { ⌜ (from ≤ length (now ends)) × (length (now ends) ≤ 65536) ⌝ }
-    ensures { λ r. ⌜ ((n : ℕ) → Passing (end-at (chartIn n (now (table .entry))) p) (now (ends .entry)) from r) × (now (starting .exit) ≡ flag (halves (keep are-min (slice from r (now (ends .entry))))) (now (starting .entry))) × (now (finishing .exit) ≡ flag (halves (keep (λ f. not (are-min f)) (slice from r (now (ends .entry))))) (now (finishing .entry))) ⌝ }
+    ensures { λ r. ⌜ EndsPassed (now (table .entry)) p (now (ends .entry)) from (now (starting .entry)) (now (finishing .entry)) (now (starting .exit)) (now (finishing .exit)) r ⌝ }
 {
     let mut k = from;
     while is_end_at(table, ends, k, p) {
@@ -104,7 +103,7 @@ pub fn pass_crossings(
     marks: &mut [u8],
 ) -> usize
     requires { ⌜ (from ≤ length (now waiting)) × (length (now waiting) ≤ 65536) ⌝ }
-    ensures { λ r. ⌜ ((n : ℕ) → Passing (crossing-at (chartIn n (now (table .entry))) p) (now (waiting .entry)) from r) × (now (turning .exit) ≡ flag (pieces (slice from r (now (waiting .entry)))) (now (turning .entry))) × (now (marks .exit) ≡ free-all (slice from r (now (waiting .entry))) (now (marks .entry))) ⌝ }
+    ensures { λ r. ⌜ CrossingsPassed (now (table .entry)) p (now (waiting .entry)) from (now (turning .entry)) (now (marks .entry)) (now (turning .exit)) (now (marks .exit)) r ⌝ }
 {
     let mut k = from;
     while is_crossing_at(table, waiting, k, p) {

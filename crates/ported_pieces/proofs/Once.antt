@@ -1,6 +1,6 @@
 -- "It allows one result": of each public function's own contract, as the check reads it.
 use mathlib.Core.Path.{sym, _∙_}
-use Rattle.fractions.specs.Demand.{OneResult}
+use Rattle.integers.specs.Outcome.{OneResult}
 use Rattle.ported_pieces.proofs.piece.Reads as piece
 use Rattle.ported_pieces.proofs.end_point.Reads as end-point
 use Rattle.ported_pieces.proofs.end_before.Reads as end-before

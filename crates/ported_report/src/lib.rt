@@ -38,7 +38,8 @@ fn report_row(
     end: usize,
 ) -> usize
     requires { ⌜ x < length (now here) ⌝ }
-    ensures { λ r. ⌜ ((n : ℕ) (w : List ℕ) (s : ℕ) → book (now (marks .exit)) w s (now (bytes .exit)) r ≡ each (report (chartIn n (now (table .entry)))) (map (λ j. (getD (now (here .entry)) x 0, j)) (drop (x + 1) (now (here .entry)))) (book (now (marks .entry)) w s (now (bytes .entry)) end)) ⌝ }
+    ensures { λ r. ⌜ ((n : ℕ) (w : List ℕ) (s : ℕ) → book (now (marks .exit)) w s (now (bytes .exit)) r
+        ≡ each (report (chartIn n (now (table .entry)))) (map (λ j. (getD (now (here .entry)) x 0, j)) (drop (x + 1) (now (here .entry)))) (book (now (marks .entry)) w s (now (bytes .entry)) end)) ⌝ }
 {
     let i = here[x];
     let count = here.len();
@@ -59,7 +60,8 @@ pub fn report_all(
     end: usize,
 ) -> usize
     requires { ⌜ h ≤ length (now here) ⌝ }
-    ensures { λ r. ⌜ ((n : ℕ) (w : List ℕ) (s : ℕ) → book (now (marks .exit)) w s (now (bytes .exit)) r ≡ each (report (chartIn n (now (table .entry)))) (pairs (drop h (now (here .entry)))) (book (now (marks .entry)) w s (now (bytes .entry)) end)) ⌝ }
+    ensures { λ r. ⌜ ((n : ℕ) (w : List ℕ) (s : ℕ) → book (now (marks .exit)) w s (now (bytes .exit)) r
+        ≡ each (report (chartIn n (now (table .entry)))) (pairs (drop h (now (here .entry)))) (book (now (marks .entry)) w s (now (bytes .entry)) end)) ⌝ }
 {
     let count = here.len();
     let mut last = end;

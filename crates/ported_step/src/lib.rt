@@ -1,12 +1,7 @@
 // One visit of the sweep, after the Rust's bentley_ottmann.rs: a step at the least point that is left.
-ghost use mathlib.Core.Path.{_≡_};
-ghost use Prim.Native.Nat.{_*_, _≤_};
-ghost use lib.ListN.{length, take, drop};
-ghost use Rattle.ported_ledger.specs.Views.{ledger};
-ghost use Rattle.ported_step.specs.Views.{held, staying, entering};
-ghost use Rattle.ported_step.specs.Turns.{Turns, Within, Steps};
-ghost use Rattle.charts.specs.Chart.{most};
-ghost use Rattle.ported_gather.specs.Joined.{AllBelow};
+ghost use Prim.Native.Nat.{_≤_};
+ghost use lib.ListN.{length};
+ghost use Rattle.ported_step.specs.Turns.{Turning, Fits, Stepping};
 use charts::MOST;
 use fractions::Point;
 use ported_examine::examine_all;
@@ -39,7 +34,8 @@ fn turn(
     end: usize,
 ) -> Turned
     requires { ⌜ (live ≤ length (now active)) × (h ≤ length (now here)) × (head ≤ length (now waiting)) × (length (now waiting) ≤ 65536) ⌝ }
-    ensures { λ r. ⌜ Turns (now (table .entry)) p (length (now (active .entry))) (length (now (waiting .entry))) (staying (now (finishing .entry)) (now (turning .entry)) (take live (now (active .entry)))) (entering (now (starting .entry)) (now (finishing .entry)) (now (turning .entry)) (drop h (now (here .entry)))) (ledger (now (marks .entry)) (now (waiting .entry)) head (now (bytes .entry)) end) r (now (active .exit)) (ledger (now (marks .exit)) (now (waiting .exit)) (r .head) (now (bytes .exit)) (r .end)) ⌝ }
+    ensures { λ r. ⌜ Turning (now (table .entry)) p (now (active .entry)) live (now (here .entry)) h (now (starting .entry)) (now (finishing .entry)) (now (turning .entry))
+        (now (marks .entry)) (now (waiting .entry)) head (now (bytes .entry)) end (now (active .exit)) (now (marks .exit)) (now (waiting .exit)) (now (bytes .exit)) r ⌝ }
 {
     let stay = ported_active::leave(active, live, finishing, turning);
     let first = examine_all(table, p, active, stay, marks, waiting, head, bytes, end);
@@ -79,8 +75,9 @@ pub fn step(
     bytes: &mut [u8],
     end: usize,
 ) -> At
-    requires { ⌜ (passed ≤ length (now ends)) × (length (now ends) ≤ 65536) × AllBelow (2 * most) (drop passed (now ends)) × (live ≤ length (now active)) × (length (now active) ≡ most) × (head ≤ length (now waiting)) × (length (now waiting) ≤ 65536) × AllBelow (most * most) (drop head (now waiting)) ⌝ }
-    ensures { λ r. ⌜ Within r (now (ends .entry)) (now (active .entry)) (now (waiting .entry)) × Steps (now (table .entry)) p (held (now (table .entry)) (now (ends .entry)) passed (now (active .entry)) live (ledger (now (marks .entry)) (now (waiting .entry)) head (now (bytes .entry)) end)) (held (now (table .entry)) (now (ends .entry)) (r .passed) (now (active .exit)) (r .live) (ledger (now (marks .exit)) (now (waiting .exit)) (r .head) (now (bytes .exit)) (r .end))) (r .stay) ⌝ }
+    requires { ⌜ Fits (now ends) passed (now active) live (now waiting) head ⌝ }
+    ensures { λ r. ⌜ Stepping (now (table .entry)) p (now (ends .entry)) passed (now (active .entry)) live (now (marks .entry)) (now (waiting .entry)) head (now (bytes .entry)) end
+        (now (active .exit)) (now (marks .exit)) (now (waiting .exit)) (now (bytes .exit)) r ⌝ }
 {
     let mut starting = [0u8; MOST];
     let mut finishing = [0u8; MOST];

@@ -9,12 +9,5 @@ pub mod Budgets
 pub mod Sweeping
 pub mod Ported
 pub mod Examined
-pub mod Pairs
-pub mod Reader
-pub mod C
-pub mod Once
 pub mod Heights
 pub mod Useless
-pub mod OnePlace
-pub mod Signs
-pub mod Supplied

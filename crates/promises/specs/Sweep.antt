@@ -17,10 +17,11 @@ use Rattle.charts.specs.declared.Verdict.the-variants.{Refused}
 use Rattle.charts.specs.Demand.{ListingDue}
 use Rattle.naive.specs.Pairs.{bytes, over}
 use Rattle.sweep.specs.Lists.{Pair, last-of, Pairwise}
-use Rattle.bentley_ottmann.specs.declared.Last.{Last}
-use Rattle.bentley_ottmann.specs.declared.Last.the-variants.{None, At}
+use Rattle.ported_run.specs.declared.Last.{Last}
+use Rattle.ported_run.specs.declared.Last.the-variants.{None, At}
 use Rattle.bentley_ottmann.specs.declared.Swept.{Swept}
-use Rattle.bentley_ottmann.specs.Swept.{asLast, sweepOf, lentAfter, refusedWith}
+use Rattle.ported_run.specs.Last.{asLast}
+use Rattle.bentley_ottmann.specs.Swept.{sweepOf, lentAfter, refusedWith}
 use Rattle.promises.specs.Refusals.{RefusalPromises}
 use Rattle.promises.specs.Chart.{Accepts, pairsIn, FirstOf, Before, Meeting, SomePoints, AllPoints}
 use Rattle.promises.specs.AllPairs.{Allowed as AllPairs, listedIn as allIn}

@@ -6,4 +6,3 @@ pub mod OnSides
 pub mod Elsewhere
 pub mod Round
 pub mod Senses
-pub mod Once

@@ -1,9 +1,9 @@
 // Where each budget stops the sweep of a chart, from none to that of its last step, and the whole list; in the new mode or as
 // the Rust does.
 use crate::text;
-use bentley_ottmann::Last;
 use bentley_ottmann::Swept;
 use charts::MOST;
+use ported_run::Last;
 
 fn write_stop(swept: Swept) {
     text::number(b"", swept.steps as u64);

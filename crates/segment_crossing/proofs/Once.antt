@@ -1,6 +1,6 @@
 -- "For each input .. it allows one result": of each public function's contract, as the check reads it.
 use mathlib.Core.Path.{sym, _∙_}
-use Rattle.fractions.specs.Demand.{OneResult}
+use Rattle.integers.specs.Outcome.{OneResult}
 use Rattle.segment_crossing.proofs.run.Reads as run
 use Rattle.segment_crossing.proofs.rise.Reads as rise
 use Rattle.segment_crossing.proofs.cramer.Reads as cramer

@@ -1,6 +1,6 @@
 -- "For each input .. it allows one result": of each public function's contract, as the check reads it.
 use mathlib.Core.Path.{sym, _∙_}
-use Rattle.fractions.specs.Demand.{OneResult}
+use Rattle.integers.specs.Outcome.{OneResult}
 use Rattle.segment_test.proofs.pair_order.Reads as pair-order
 use Rattle.segment_test.proofs.join.Reads as join
 use Rattle.segment_test.proofs.piece.Reads as piece

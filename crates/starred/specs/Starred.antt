@@ -11,7 +11,7 @@ use Rattle.charts.specs.Piece.{pieceAt}
 use Rattle.place.specs.declared.Where.{Where}
 use Rattle.sweep.specs.Ported.{ported}
 use Rattle.sweep.specs.Run.{visited}
-use Rattle.bentley_ottmann.specs.declared.Last.the-variants.{At}
+use Rattle.ported_run.specs.declared.Last.the-variants.{At}
 use Rattle.bentley_ottmann.specs.Swept.{sweepOf, lentAfter}
 use Rattle.starred.specs.Written.{piece, at, end, met, place, read, coordinate}
 

@@ -7,7 +7,7 @@ use lib.IntN.{ℤ, pos, negsuc}
 use Rattle.charts.specs.Answer.{doneWith}
 use Rattle.naive.specs.AllPairs.{allPairsOf}
 use Rattle.naive.specs.AllPairs.{lentAfter as listedBy}
-use Rattle.bentley_ottmann.specs.declared.Last.the-variants.{At}
+use Rattle.ported_run.specs.declared.Last.the-variants.{At}
 use Rattle.bentley_ottmann.specs.Swept.{sweepOf, lentAfter}
 use Rattle.full_sweep.specs.Swept.{sweepOf as fullSweepOf, lentAfter as fullAfter}
 use Rattle.starred.specs.Written.{piece, at}

@@ -12,5 +12,4 @@ pub mod Promises
 pub mod Exactly
 pub mod Written
 pub mod Changed
-pub mod Once
 pub mod Examples

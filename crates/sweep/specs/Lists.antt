@@ -1,10 +1,10 @@
 -- The words on lists in which the sweep is told.
 use mathlib.Core.Bool.{Bool, false, cond, _&&_, _||_}
 use mathlib.Core.List.{List, [], _∷_, _++_, map}
-use mathlib.Core.List.{List·Memᴰ as In}
 use mathlib.Core.Option.{Option, none, some}
 use Prim.Native.Nat.{ℕ, zero, suc}
 use lib.Dec.{ltb, eqb}
+pub use Rattle.charts.specs.PairList.{Pair, Pairwise}
 
 -- 0, 1, .., n - 1
 unfoldable pub upto : ℕ → List ℕ
@@ -39,15 +39,6 @@ module _ {A : Type 0} where
   last-of [] = none
   last-of (x ∷ []) = some x
   last-of (x ∷ y ∷ l) = last-of (y ∷ l)
-
-  -- every two members, the earlier and the later, stand in a relation
-  abbrev pub Pairwise : (A → A → Type 0) → List A → Type 0
-  Pairwise R [] = Unit {0}
-  Pairwise R (x ∷ l) = ((y : A) → In y l → R x y) × Pairwise R l
-
--- two numbers of pieces
-abbrev pub Pair : Type 0
-Pair = ℕ × ℕ
 
 unfoldable pub same-pair : Pair → Pair → Bool
 same-pair q r = eqb (q .0) (r .0) && eqb (q .1) (r .1)

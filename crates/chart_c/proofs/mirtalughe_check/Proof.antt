@@ -1,7 +1,7 @@
 -- `chart_c::mirtalughe_check` meets its contract: it fills in the numbers of what the check says.
 use borrow.Author.Needs.{needs}
 use mathlib.Core.Path.{_∙_, ap}
-use Rattle.chart_c.specs.Checks.{checkedAs}
+use Rattle.c_records.specs.Checks.{checkedAs}
 use Rattle.chart_c.proofs.mirtalughe_check.Statement.{statement}
 use Rattle.chart_c.proofs.mirtalughe_check.Tie as tie
 

@@ -5,7 +5,7 @@ use Rattle.integers.proofs.Machine.{m-eq}
 use Rattle.integers.proofs.Tests.{ranged}
 use Rattle.fractions.specs.Point.{pointOrder}
 use Rattle.fractions.proofs.Quotient.{same-record}
-use Rattle.chart_c.specs.Numbers.{orderNumber, pointOf}
+use Rattle.c_records.specs.Numbers.{orderNumber, pointOf}
 use Rattle.chart_c.proofs.mirtalughe_compare_points.Statement.{statement}
 use Rattle.chart_c.proofs.mirtalughe_compare_points.Tie as tie
 

@@ -3,7 +3,7 @@ use borrow.Author.Needs.{needs}
 use mathlib.Core.Path.{_≡_, ap, _∙_}
 use mir.Facts.{toZ-ofZ}
 use Rattle.half_line.specs.Call.{halfLineAnswerOf}
-use Rattle.chart_c.specs.Regions.{halfMetOf}
+use Rattle.c_records.specs.Regions.{halfMetOf}
 use Rattle.chart_c.proofs.mirtalughe_half_line.Statement.{statement}
 use Rattle.chart_c.proofs.mirtalughe_half_line.Tie as tie
 

@@ -1,7 +1,7 @@
 -- `chart_c::mirtalughe_meeting` meets its contract: it fills in the fields of what the call on a list answers.
 use borrow.Author.Needs.{needs}
 use mathlib.Core.Path.{_∙_, ap}
-use Rattle.chart_c.specs.Meetings.{fieldsOf}
+use Rattle.c_records.specs.Meetings.{fieldsOf}
 use Rattle.chart_c.proofs.mirtalughe_meeting.Statement.{statement}
 use Rattle.chart_c.proofs.mirtalughe_meeting.Tie as tie
 

@@ -6,7 +6,7 @@ use Rattle.integers.proofs.Machine.{m-eq}
 use Rattle.integers.proofs.Tests.{ranged}
 use Rattle.charts.proofs.Numbers.{told}
 use Rattle.orientation.specs.Turn.{det, turnOf}
-use Rattle.chart_c.specs.Numbers.{turnNumber}
+use Rattle.c_records.specs.Numbers.{turnNumber}
 use Rattle.chart_c.proofs.mirtalughe_orient.Statement.{statement}
 use Rattle.chart_c.proofs.mirtalughe_orient.Tie as tie
 

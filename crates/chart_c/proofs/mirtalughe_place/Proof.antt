@@ -1,7 +1,7 @@
 -- `chart_c::mirtalughe_place` meets its contract: it fills in the values of what the pair call answers.
 use borrow.Author.Needs.{needs}
 use mathlib.Core.Path.{_∙_, ap}
-use Rattle.chart_c.specs.Places.{placedOf}
+use Rattle.c_records.specs.Places.{placedOf}
 use Rattle.chart_c.proofs.mirtalughe_place.Statement.{statement}
 use Rattle.chart_c.proofs.mirtalughe_place.Tie as tie
 

@@ -3,7 +3,7 @@ use borrow.Author.Needs.{needs}
 use mathlib.Core.Path.{ap, ap₂, _∙_}
 use mir.Facts.{toZ-ofZ}
 use Rattle.region.specs.Region.{regionAnswerOf}
-use Rattle.chart_c.specs.Regions.{locatedOf}
+use Rattle.c_records.specs.Regions.{locatedOf}
 use Rattle.chart_c.proofs.mirtalughe_region.Statement.{statement}
 use Rattle.chart_c.proofs.mirtalughe_region.Tie as tie
 

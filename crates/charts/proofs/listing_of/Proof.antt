@@ -1,6 +1,7 @@
 -- `charts::listing_of` meets its contract: by the verdict on the list, then the room.
 use borrow.Author.Needs.{needs}
 use mathlib.Core.Path.{_≡_, sym, _∙_}
+use native.Mathlib.Omega.{arith}
 use Rattle.charts.specs.Chart.{verdictOf}
 use Rattle.charts.specs.declared.Verdict.the-variants.{Accepted}
 use Rattle.charts.proofs.Listing.{listing-refused, listing-eight, listing-accepted}
@@ -22,7 +23,7 @@ accepted : (c : tie.After-known-told2) → verdictOf (c .before .before .before 
 accepted c = sym (c .before .before .before .verdict-of .ensures) ∙ c .before .n .given .1
 
 room-of-requires : tie.Need-room-of-requires
-room-of-requires c κs = accepted-most _ _ (accepted c)
+room-of-requires c κs = omega (arith, accepted-most _ _ (accepted c))
 
 returns : tie.Need-returns
 returns c =

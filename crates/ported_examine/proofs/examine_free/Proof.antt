@@ -30,7 +30,7 @@ returns : tie.Need-returns
 unfolding examine-free
 returns c =
     let st = c .before .before .before .before .before .before in
-    (st .pre .0, λ n. free-by (chartIn n (st .args .table .now)) (st .args .p) (st .args .i, st .args .j) _ (ap kindOf (sym (c .before .before .test .ensures) ∙ c .enum-told .given .1)))
+    record { heads = st .pre .0; books = λ n. free-by (chartIn n (st .args .table .now)) (st .args .p) (st .args .i, st .args .j) _ (ap kindOf (sym (c .before .before .test .ensures) ∙ c .enum-told .given .1)) }
 
 same-length : tie.Need-same-length
 same-length c = search needs
@@ -44,7 +44,7 @@ same-length-3 c = search needs
 returns-2 : tie.Need-returns-2
 returns-2 c =
     let e = c .before .before .before .before .before .before .examine-crossing .ensures in
-    (e .0, λ n. e .1 n ∙ free-by _ (c .before .before .before .before .before .before .before .before .before .before .before .before .before .before .before .before .args .p) _ _ (ap kindOf (sym (c .before .before .before .before .before .before .before .before .before .before .before .before .test .ensures) ∙ c .before .before .before .before .before .before .before .before .before .before .enum-told2 .given .1)))
+    record { heads = e .heads; books = λ n. e .books n ∙ free-by _ (c .before .before .before .before .before .before .before .before .before .before .before .before .before .before .before .before .args .p) _ _ (ap kindOf (sym (c .before .before .before .before .before .before .before .before .before .before .before .before .test .ensures) ∙ c .before .before .before .before .before .before .before .before .before .before .enum-told2 .given .1)) }
 
 same-length-4 : tie.Need-same-length-4
 same-length-4 c = search needs
@@ -56,7 +56,7 @@ returns-3 : tie.Need-returns-3
 unfolding examine-free
 returns-3 c =
     let st = c .before .before .before .before .before .before .before .before .before .before .before .before .before in
-    (st .pre .0, λ n. c .before .before .before .before .list-pair .ensures _ _ ∙ free-by (chartIn n (st .args .table .now)) (st .args .p) (st .args .i, st .args .j) _ (ap kindOf (sym (c .before .before .before .before .before .before .before .before .before .test .ensures) ∙ c .before .before .before .before .before .before .before .enum-told3 .given .1)))
+    record { heads = st .pre .0; books = λ n. c .before .before .before .before .list-pair .ensures _ _ ∙ free-by (chartIn n (st .args .table .now)) (st .args .p) (st .args .i, st .args .j) _ (ap kindOf (sym (c .before .before .before .before .before .before .before .before .before .test .ensures) ∙ c .before .before .before .before .before .before .before .enum-told3 .given .1)) }
 
 pub examine-free-spec : {M : Type 1} → statement M
 examine-free-spec =

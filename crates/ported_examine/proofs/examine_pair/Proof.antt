@@ -20,11 +20,12 @@ same-length c = search needs
 returns : tie.Need-returns
 unfolding mark
 returns c =
-    let st = c .before .before .before .before .before .before .before in (
-      st .pre .0,
-      λ n.
-          examine-marked _ (st .args .p) _ _ (λ h. c .if1 .taken (c .before .mark-at .ensures ∙ ap (λ (k : ℕ). getD (st .args .marks .now) k 0) (c .before .before .cell-of .ensures) ∙ h)),
-    )
+    let st = c .before .before .before .before .before .before .before in
+    record {
+      heads = st .pre .0;
+      books = λ n.
+          examine-marked _ (st .args .p) _ _ (λ h. c .if1 .taken (c .before .mark-at .ensures ∙ ap (λ (k : ℕ). getD (st .args .marks .now) k 0) (c .before .before .cell-of .ensures) ∙ h));
+    }
 
 examine-free-requires : tie.Need-examine-free-requires
 examine-free-requires c κs = search needs
@@ -42,12 +43,13 @@ returns-2 : tie.Need-returns-2
 unfolding mark
 returns-2 c =
     let st = c .before .before .before .before .before .before .before .before .before .before .before .before .before .before .before .before .before in
-    let e = c .before .before .before .before .before .before .examine-free .ensures in (
-      e .0,
-      λ n.
-          e .1 n
-          ∙ examine-by _ (st .args .p) _ _ (sym (c .before .before .before .before .before .before .before .before .before .before .before .mark-at .ensures ∙ ap (λ (k : ℕ). getD (st .args .marks .now) k 0) (c .before .before .before .before .before .before .before .before .before .before .before .before .cell-of .ensures)) ∙ c .before .before .before .before .before .before .before .before .before .before .if1 .left) _ refl,
-    )
+    let e = c .before .before .before .before .before .before .examine-free .ensures in
+    record {
+      heads = e .heads;
+      books = λ n.
+          e .books n
+          ∙ examine-by _ (st .args .p) _ _ (sym (c .before .before .before .before .before .before .before .before .before .before .before .mark-at .ensures ∙ ap (λ (k : ℕ). getD (st .args .marks .now) k 0) (c .before .before .before .before .before .before .before .before .before .before .before .before .cell-of .ensures)) ∙ c .before .before .before .before .before .before .before .before .before .before .if1 .left) _ refl;
+    }
 
 pub examine-pair-spec : {M : Type 1} → statement M
 examine-pair-spec =

@@ -28,7 +28,7 @@ returns : tie.Need-returns
 returns c =
     let st = c .before .before .before .before .before .before .before .before .before .before .before .before .before .before in
     let e = c .before .before .before .before .before .before .examine-pair .ensures in
-    (e .0, λ n. e .1 n ∙ ap (λ (q : Pair). examine (chartIn n (st .args .table .now)) (st .args .p) q (ledger (st .args .marks .now) (st .args .waiting .now) (st .args .head) (st .args .bytes .now) (st .args .end))) (sym (lesser-yes (st .args .a) (st .args .b) (c .before .before .before .before .before .before .before .before .before .before .if1 .taken))))
+    record { heads = e .heads; books = λ n. e .books n ∙ ap (λ (q : Pair). examine (chartIn n (st .args .table .now)) (st .args .p) q (ledger (st .args .marks .now) (st .args .waiting .now) (st .args .head) (st .args .bytes .now) (st .args .end))) (sym (lesser-yes (st .args .a) (st .args .b) (c .before .before .before .before .before .before .before .before .before .before .if1 .taken))) }
 
 examine-pair-requires-2 : tie.Need-examine-pair-requires-2
 examine-pair-requires-2 c κs = search needs
@@ -46,7 +46,7 @@ returns-2 : tie.Need-returns-2
 returns-2 c =
     let st = c .before .before .before .before .before .before .before .before .before .before .before .before .before .before in
     let e = c .before .before .before .before .before .before .examine-pair2 .ensures in
-    (e .0, λ n. e .1 n ∙ ap (λ (q : Pair). examine (chartIn n (st .args .table .now)) (st .args .p) q (ledger (st .args .marks .now) (st .args .waiting .now) (st .args .head) (st .args .bytes .now) (st .args .end))) (sym (lesser-no (st .args .a) (st .args .b) (c .before .before .before .before .before .before .before .before .before .before .if1 .left))))
+    record { heads = e .heads; books = λ n. e .books n ∙ ap (λ (q : Pair). examine (chartIn n (st .args .table .now)) (st .args .p) q (ledger (st .args .marks .now) (st .args .waiting .now) (st .args .head) (st .args .bytes .now) (st .args .end))) (sym (lesser-no (st .args .a) (st .args .b) (c .before .before .before .before .before .before .before .before .before .before .if1 .left))) }
 
 pub examine-two-spec : {M : Type 1} → statement M
 examine-two-spec =

@@ -35,9 +35,9 @@ slice-aggregate-gather c = search needs
 gather-requires : tie.Need-gather-requires
 gather-requires c κs =
     let st = c .before .before .before .before .before .before .before .before .before .before .before .before .before .before .before .before .before .before .before .before in
-    let e = c .before .before .before .before .before .before .before .before .before .before .before .before .pass-ends .ensures .0 0 in
-    let w = c .before .before .before .before .before .before .pass-crossings .ensures .0 0 in
-    (e .onwards, e .within, λ x m. st .pre .2 x (passed-in e m), w .onwards, w .within, λ x m. st .pre .7 x (passed-in w m), st .pre .3, omega arith)
+    let e = c .before .before .before .before .before .before .before .before .before .before .before .before .pass-ends .ensures .passes 0 in
+    let w = c .before .before .before .before .before .before .pass-crossings .ensures .passes 0 in
+    (e .onwards, e .within, λ x m. st .pre .ends-left x (passed-in e m), w .onwards, w .within, λ x m. st .pre .waiting-left x (passed-in w m), st .pre .lives, omega arith)
 
 slice-aggregate-report-all : tie.Need-slice-aggregate-report-all
 slice-aggregate-report-all c = search needs
@@ -61,7 +61,7 @@ turn-requires : tie.Need-turn-requires
 turn-requires c κs =
     let st = c .before .before .before .before .before .before .before .before .before .before .before .before .before .before .before .before .before .before .before .before .before .before .before .before .before .before .before .before .before .before .before .before .before .before .before .before .before .before in
     let g = c .before .before .before .before .before .before .before .before .before .before .before .before .before .before .before .before .before .gather .ensures in
-    (st .pre .3, omega (arith, g .within, g .long), (c .before .before .before .before .before .before .before .before .before .before .before .before .before .before .before .before .before .before .before .before .before .before .before .before .pass-crossings .ensures .0 0) .within, st .pre .6)
+    (st .pre .lives, omega (arith, g .within, g .long), (c .before .before .before .before .before .before .before .before .before .before .before .before .before .before .before .before .before .before .before .before .before .before .before .before .pass-crossings .ensures .passes 0) .within, st .pre .waiting-few)
 
 same-length : tie.Need-same-length
 same-length c = search needs
@@ -82,11 +82,11 @@ returns c =
     let pc = c .before .before .before .before .before .before .before .before .before .before .before .before .before .before .before .before .before .before .before .before .before .before .before .before .before .before .before .before .before .before .before .before .before .pass-crossings .ensures in
     let g = c .before .before .before .before .before .before .before .before .before .before .before .before .before .before .before .before .before .before .before .before .before .before .before .before .before .before .gather .ensures in
     let t = c .before .before .before .before .before .before .before .before .turn .ensures in (
-      record { passed = (pe .0 0) .within; fewer = t .fewer; lives = t .lives; heads = t .heads },
+      record { passed = (pe .passes 0) .within; fewer = t .fewer; lives = t .lives; heads = t .heads },
       record {
         does = λ n last steps.
             assembled n (st .args .table .now) (st .args .p) (st .args .ends .now) (st .args .active .now) (st .args .marks .now) (st .args .waiting .now) (st .args .bytes .now)
-            (st .args .passed) (st .args .live) (st .args .head) (st .args .end) last steps _ _ (pe .0 n) (pc .0 n) _ _ _ _ _ (pe .1) (pe .2) (pc .1) (pc .2) (g .list) _ _ _ _ (st .pre .4)
+            (st .args .passed) (st .args .live) (st .args .head) (st .args .end) last steps _ _ (pe .passes n) (pc .passes n) _ _ _ _ _ (pe .starts) (pe .finishes) (pc .turns) (pc .frees) (g .list) _ _ _ _ (st .pre .full)
             (c .before .before .before .before .before .before .before .before .before .before .before .before .before .before .before .before .before .before .before .before .before .report-all .ensures n (drop (c .before .before .before .before .before .before .before .before .before .before .before .before .before .before .before .before .before .before .before .before .before .before .before .before .before .before .before .before .before .before .before .before .before .pass-crossings .result) (st .args .waiting .now)) (c .before .before .before .before .before .before .before .before .before .before .before .before .before .before .before .before .before .before .before .before .before .before .before .before .before .before .before .before .before .before .before .before .before .pass-crossings .result))
             (t .ranges)
             (t .examines n);
@@ -95,7 +95,7 @@ returns c =
             ∙ ap length
             (sym
             (stay-is n (st .args .table .now) (st .args .p) (st .args .ends .now) (st .args .active .now) (st .args .marks .now) (st .args .waiting .now) (st .args .bytes .now)
-            (st .args .passed) (st .args .live) (st .args .head) (st .args .end) last steps _ _ (pe .0 n) (pc .0 n) _ _ _ _ _ (pe .1) (pe .2) (pc .1) (pc .2) (g .list)));
+            (st .args .passed) (st .args .live) (st .args .head) (st .args .end) last steps _ _ (pe .passes n) (pc .passes n) _ _ _ _ _ (pe .starts) (pe .finishes) (pc .turns) (pc .frees) (g .list)));
       },
     )
 

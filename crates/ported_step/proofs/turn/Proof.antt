@@ -39,7 +39,7 @@ examine-all-requires-2 : tie.Need-examine-all-requires-2
 examine-all-requires-2 c κs =
     let st = c .before .before .before .before .before .before .before .before .before .before .before .before .before .before .before .before .before .before .before .before .before .before .before .before .before .before .before .before .before .before .before .before .before .before .before in
     let n = c .before .before .before .before .before .before .before .before .before .before .enter .ensures .0 in
-    let e = c .before .before .before .before .before .before .before .before .before .before .before .before .before .before .before .before .before .before .examine-all .ensures .0 in
+    let e = c .before .before .before .before .before .before .before .before .before .before .before .before .before .before .before .before .before .before .examine-all .ensures .heads in
     (omega (arith, n, c .before .before .before .before .before .active3 .given, c .before .before .before .before .before .before .before .before .before .active2 .given, c .before .before .before .before .before .before .before .before .before .before .before .before .before .before .before .before .before .before .before .before .before .before .before .before .active .given), omega (arith, e, c .before .before .before .before .before .before .before .before .before .before .before .before .before .before .before .waiting .given), omega (arith, c .before .before .before .before .before .before .before .before .before .before .before .before .before .before .before .waiting .given, st .pre .3))
 
 same-length : tie.Need-same-length
@@ -67,12 +67,12 @@ returns c =
       stayed = sym (length-take-le _ _ (omega (arith, l .0, long, st .pre .0))) ∙ ap length (l .1);
       fewer = omega (arith, l .0, st .pre .0);
       lives = omega (arith, n .0, long);
-      heads = omega (arith, s .0, c .before .before .before .before .before .before .before .before .before .before .before .before .before .before .before .before .before .before .before .before .before .before .waiting .given);
+      heads = omega (arith, s .heads, c .before .before .before .before .before .before .before .before .before .before .before .before .before .before .before .before .before .before .before .before .before .before .waiting .given);
       ranges = r ∙ ap (insert-all _ []) (n .1 ∙ ap₂ (λ (k : ℕ) (x : List ℕ). add k x (keep (entersBy (st .args .starting .now) (st .args .finishing .now) (st .args .turning .now)) (drop (st .args .h) (st .args .here .now)))) long (l .1));
       examines = λ m.
-          s .1 m
+          s .books m
           ∙ ap (each (examine (chartIn m (st .args .table .now)) (st .args .p)) _)
-          (f .1 m ∙ ap (λ (z : List ℕ). each (examine (chartIn m (st .args .table .now)) (st .args .p)) (adjacent z) (ledger (st .args .marks .now) (st .args .waiting .now) (st .args .head) (st .args .bytes .now) (st .args .end))) (l .1));
+          (f .books m ∙ ap (λ (z : List ℕ). each (examine (chartIn m (st .args .table .now)) (st .args .p)) (adjacent z) (ledger (st .args .marks .now) (st .args .waiting .now) (st .args .head) (st .args .bytes .now) (st .args .end))) (l .1));
     }
 
 pub turn-spec : {M : Type 1} → statement M

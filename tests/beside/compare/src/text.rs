@@ -1,7 +1,7 @@
 //! The library's own text, read as Rust, so that its sweep can tell its state after every step, and the new mode be asked
 //! without an emulator.
 
-use bentley_ottmann::Last;
+use ported_run::Last;
 
 use crate::answers::{Chart, MOST_PIECES, Pair, Point, Run, Step, Swept};
 use crate::lent::{self, room};

@@ -6,7 +6,7 @@ use Prim.Native.Nat.{ℕ, _+_, _-_}
 use native.Mathlib.Omega.{arith}
 use lib.ListN.{length, take, replicate, length-replicate}
 use lib.Seq.{paste, slice, take-all}
-use Rattle.full_active.specs.Replaced.{noLane}
+use Rattle.full_lanes.specs.Lanes.{noKey}
 use Rattle.full_active.proofs.Shifting.{replaced}
 use Rattle.full_active.proofs.moves.replace.Statement.{statement}
 use Rattle.full_active.proofs.moves.replace.Tie as tie
@@ -38,15 +38,15 @@ returns c =
     let h = w .before .before .before .before .before .before .before in
     let s = h .before .before .before .before .before .before in
     let a = s .args in
-    let all = take-all (a .m) (replicate (a .m) noLane) (omega (arith, length-replicate (a .m) noLane)) in
+    let all = take-all (a .m) (replicate (a .m) noKey) (omega (arith, length-replicate (a .m) noKey)) in
     record {
       count = refl;
       pieces-are =
           ap (take (a .lo + a .m + (a .live - a .hi))) (w .write .ensures .0 ∙ ap (λ (l : List ℕ). paste l (a .lo) (a .fresh .now) (a .m)) (h .shift .ensures .0))
           ∙ replaced (a .active .now) (a .fresh .now) (a .live) (a .lo) (a .hi) (a .m) (omega arith) (omega arith) (omega arith) (omega arith) (omega arith);
       lanes-are =
-          ap (take (a .lo + a .m + (a .live - a .hi))) (w .write .ensures .1 ∙ ap (λ (l : List ℕ). paste l (a .lo) (replicate (a .m) noLane) (a .m)) (h .shift .ensures .1))
-          ∙ replaced (a .lanes .now) (replicate (a .m) noLane) (a .live) (a .lo) (a .hi) (a .m) (omega arith) (omega arith) (omega arith) (omega arith) (omega (arith, length-replicate (a .m) noLane))
+          ap (take (a .lo + a .m + (a .live - a .hi))) (w .write .ensures .1 ∙ ap (λ (l : List ℕ). paste l (a .lo) (replicate (a .m) noKey) (a .m)) (h .shift .ensures .1))
+          ∙ replaced (a .lanes .now) (replicate (a .m) noKey) (a .live) (a .lo) (a .hi) (a .m) (omega arith) (omega arith) (omega arith) (omega arith) (omega (arith, length-replicate (a .m) noKey))
           ∙ ap (λ (l : List ℕ). take (a .lo) (a .lanes .now) ++ (l ++ slice (a .hi) (a .live) (a .lanes .now))) all;
     }
 

@@ -7,12 +7,12 @@ use mathlib.Core.List.{List}
 use Prim.Native.Nat.{ℕ, _+_, _-_, _≤_}
 use native.Mathlib.Omega.{arith}
 use lib.Seq.{paste, paste-zero, paste-suc}
-use Rattle.full_active.specs.Replaced.{noLane}
+use Rattle.full_lanes.specs.Lanes.{noKey}
 use Rattle.full_active.proofs.moves.write.Statement.{statement}
 use Rattle.full_active.proofs.moves.write.Tie as tie
 
 abbrev Inv-loop : tie.InvT-loop
-Inv-loop active₀ lanes₀ lo fresh m k₀ active lanes k = (k ≤ m) × (length active ≡ length active₀) × (length lanes ≡ length lanes₀) × (active ≡ paste active₀ lo fresh k) × (lanes ≡ paste lanes₀ lo (replicate m noLane) k)
+Inv-loop active₀ lanes₀ lo fresh m k₀ active lanes k = (k ≤ m) × (length active ≡ length active₀) × (length lanes ≡ length lanes₀) × (active ≡ paste active₀ lo fresh k) × (lanes ≡ paste lanes₀ lo (replicate m noKey) k)
 
 abbrev μ-loop : tie.MeasureT-loop
 μ-loop active₀ lanes₀ lo fresh m k₀ active lanes k = m - k
@@ -20,7 +20,7 @@ abbrev μ-loop : tie.MeasureT-loop
 loop-holds : tie.Need-loop-holds Inv-loop μ-loop
 loop-holds c =
     let s = c .args in
-    (omega arith, refl, refl, paste-zero (s .active .now) (s .lo) (s .fresh .now), paste-zero (s .lanes .now) (s .lo) (replicate (s .m) noLane))
+    (omega arith, refl, refl, paste-zero (s .active .now) (s .lo) (s .fresh .now), paste-zero (s .lanes .now) (s .lo) (replicate (s .m) noKey))
 
 shared-slice-read-active : tie.Need-shared-slice-read-active Inv-loop μ-loop
 shared-slice-read-active c = search needs
@@ -52,7 +52,7 @@ loop-again c =
     let s = l .before in
     let i = l .loop .inv in
     let k = l .loop .k in
-    let none : noLane ≡ getD (replicate (s .args .m) noLane) k 0 = sym (getD-replicate (s .args .m) k noLane 0 (omega arith)) in (
+    let none : noKey ≡ getD (replicate (s .args .m) noKey) k 0 = sym (getD-replicate (s .args .m) k noKey 0 (omega arith)) in (
       omega arith,
       simp length-set (i .1),
       simp length-set (i .2),
@@ -60,7 +60,7 @@ loop-again c =
           (ap (λ (r : List ℕ). set r (s .args .lo + k) (getD (s .args .fresh .now) k 0)) (i .3) ∙ paste-suc (s .args .active .now) (s .args .lo) (s .args .fresh .now) k 0 (omega arith) (omega arith)),
       rw add-one
           (ap₂ (λ (r : List ℕ) (v : ℕ). set r (s .args .lo + k) v) (i .4) none
-          ∙ paste-suc (s .args .lanes .now) (s .args .lo) (replicate (s .args .m) noLane) k 0 (omega arith) (omega (arith, length-replicate (s .args .m) noLane))),
+          ∙ paste-suc (s .args .lanes .now) (s .args .lo) (replicate (s .args .m) noKey) k 0 (omega arith) (omega (arith, length-replicate (s .args .m) noKey))),
     )
 
 same-length : tie.Need-same-length Inv-loop μ-loop

@@ -1,0 +1,1 @@
+// No code: what is promised of the lists of pairs that a caller in C is given.

@@ -1,0 +1,19 @@
+-- A list of pairs of pieces, by their numbers, and its bytes.
+use mathlib.Core.List.{List, [], _∷_}
+use mathlib.Core.List.{List·Memᴰ as In}
+use Prim.Native.Nat.{ℕ}
+
+-- two numbers of pieces
+abbrev pub Pair : Type 0
+Pair = ℕ × ℕ
+
+module _ {A : Type 0} where
+  -- every two members, the earlier and the later, stand in a relation
+  abbrev pub Pairwise : (A → A → Type 0) → List A → Type 0
+  Pairwise R [] = Unit {0}
+  Pairwise R (x ∷ l) = ((y : A) → In y l → R x y) × Pairwise R l
+
+-- "two [bytes] a pair"
+unfoldable pub bytes : List Pair → List ℕ
+bytes [] = []
+bytes (p ∷ ps) = p .0 ∷ p .1 ∷ bytes ps

@@ -1,0 +1,2 @@
+-- What the contracts of examining cite beside `ported_arrays`.
+pub mod Examined

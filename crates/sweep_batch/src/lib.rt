@@ -1,0 +1,54 @@
+// Several charts in one call: their lists stand end to end, and each is swept as it would be alone.
+ghost use mathlib.Core.Path.{_≡_};
+ghost use lib.ListN.{length};
+ghost use Rattle.batch.specs.Numbers.{numbersOf};
+ghost use Rattle.batch.specs.Single.{sweptAlone, leftAlone};
+ghost use Rattle.batch.specs.Batch.{Roomy, Writes, Batches};
+use batch_refusals::NUMBERS;
+use charts::Answer;
+
+// One chart, with the largest budget.
+fn sweep_chart(list: &[i32], pairs: &mut [u8], result: &mut [u64])
+    requires { ⌜ length (now result) ≡ 10 ⌝ }
+    ensures { λ _. ⌜ (now (pairs .exit) ≡ leftAlone (now (list .entry)) (now (pairs .entry))) × (now (result .exit) ≡ numbersOf (sweptAlone (now (list .entry)) (now (pairs .entry)))) ⌝ }
+{
+    let swept = full_sweep::sweep(list, 4294967295, pairs);
+    batch_result::put_result(swept, result);
+}
+
+// Every chart, each with its own stretch of the list, of the bytes and of the results.
+fn sweep_charts(list: &[i32], lengths: &[usize], pairs: &mut [u8], results: &mut [u64])
+    requires { ⌜ Roomy (now list) (now lengths) (now pairs) (now results) ⌝ }
+    ensures { λ _. ⌜ Writes (now (list .entry)) (now (lengths .entry)) (now (pairs .entry)) (now (results .entry)) (now (pairs .exit)) (now (results .exit)) ⌝ }
+{
+    let charts = lengths.len();
+    let mut from = 0;
+    let mut at = 0;
+    let mut first = 0;
+    for i in 0..charts {
+        let to = from + lengths[i];
+        let end = at + batch_refusals::need_of(lengths[i]);
+        let next = first + NUMBERS;
+        sweep_chart(
+            &list[from..to],
+            &mut pairs[at..end],
+            &mut results[first..next],
+        );
+        from = to;
+        at = end;
+        first = next;
+    }
+}
+
+// Sweeps each of several charts; the count of charts. `lengths` counts the numbers of each in the list; each has its own part
+// of the bytes, and ten of the numbers of `results`.
+pub fn sweep_batch(list: &[i32], lengths: &[usize], pairs: &mut [u8], results: &mut [u64]) -> Answer
+    ensures { λ r. ⌜ Batches (now (list .entry)) (now (lengths .entry)) (now (pairs .entry)) (now (results .entry)) r (now (pairs .exit)) (now (results .exit)) ⌝ }
+{
+    let number = batch_refusals::refusal_of(list.len(), lengths, pairs.len(), results.len());
+    if number != 0 {
+        return charts::refused(number, 0);
+    }
+    sweep_charts(list, lengths, pairs, results);
+    charts::done(lengths.len())
+}
