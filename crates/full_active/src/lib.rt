@@ -6,6 +6,7 @@ mod parts;
 mod ranks;
 
 pub use moves::NONE;
+pub use moves::exchange;
 pub use moves::replace;
 pub use parts::search;
 pub use parts::starts;
