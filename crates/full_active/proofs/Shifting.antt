@@ -5,7 +5,7 @@ use Prim.Native.Nat.{ℕ, zero, suc, _+_, _-_, _≤_, _<_}
 use native.Mathlib.Omega.{arith}
 use native.Mathlib.Numerals.{add-one}
 use lib.ListN.{length, getD, set, take, drop, length-append, length-drop, take-append-drop}
-use lib.Seq.{paste, paste-zero, paste-suc, length-paste, drop-paste, slice, length-slice, take-add, take-at, drop-at, take-take, drop-cons, take-append-le, set-split, getD-drop, getD-take, length-take-le}
+use lib.Seq.{sets-eq, paste, paste-zero, paste-suc, length-paste, drop-paste, slice, length-slice, take-add, take-at, drop-at, take-take, take-set-lt, drop-cons, take-append-le, set-split, getD-drop, getD-take, length-take-le}
 
 -- l with its members from hi on up to k written from `to` on
 abbrev pub moved : (l : List ℕ) (to hi k : ℕ) → List ℕ
@@ -128,3 +128,13 @@ replaced l xs live lo hi m a b c d e =
       length-take-le m xs e,
       length-slice hi live l c,
     ))
+
+-- two neighbours written anew
+pub two-set : (l : List ℕ) (live k x y : ℕ) → k + 1 < live → live ≤ length l → take live (set (set l k x) (k + 1) y) ≡ take k l ++ ((x ∷ y ∷ []) ++ slice (k + 2) live l)
+two-set l live k x y h w =
+    take-set-lt live (set l k x) (k + 1) y h
+    ∙ ap (λ (z : List ℕ). set z (k + 1) y) (take-set-lt live l k x (omega arith))
+    ∙ ap (λ (i : ℕ). set (set (take live l) k x) i y) (add-one k)
+    ∙ sets-eq (x ∷ y ∷ []) (take live l) k (omega (arith, length-take-le live l w))
+    ∙ append-assoc (take k (take live l)) (x ∷ y ∷ []) (slice (k + 2) live l)
+    ∙ ap (λ (z : List ℕ). z ++ ((x ∷ y ∷ []) ++ slice (k + 2) live l)) (take-take k live l (omega arith))

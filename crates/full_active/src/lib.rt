@@ -5,6 +5,7 @@ mod moves;
 mod parts;
 mod ranks;
 
+pub use moves::exchange;
 pub use moves::replace;
 pub use parts::search;
 pub use parts::starts;

@@ -1,8 +1,9 @@
 // The block's new pieces written in its place, and what stands behind it moved along; beside each place its lane, the key of
 // the crossing ahead of the piece there with the next one.
 ghost use mathlib.Core.Path.{_≡_};
+ghost use mathlib.Core.List.{[], _∷_};
 ghost use Prim.Native.Nat.{_+_, _-_, _≤_, _<_};
-ghost use lib.ListN.{length, drop, replicate};
+ghost use lib.ListN.{length, getD, drop, replicate};
 ghost use lib.Seq.{paste};
 ghost use Rattle.full_active.specs.Replaced.{Movable, Replaced};
 ghost use Rattle.full_lanes.specs.Lanes.{noKey};
@@ -73,4 +74,17 @@ pub fn replace(
     shift(active, lanes, live, hi, to);
     write(active, lanes, lo, fresh, m);
     to + (live - hi)
+}
+
+// The pieces at places k and k + 1 exchanged, neither with a lane.
+pub fn exchange(active: &mut [u8], lanes: &mut [u32], live: usize, k: usize)
+    requires { ⌜ (k + 1 < live) × (live ≤ length (now active)) × (length (now lanes) ≡ length (now active)) ⌝ }
+    ensures { λ _. ⌜ Replaced (now (active .entry)) (now (lanes .entry)) live k (k + 2) (getD (now (active .entry)) (k + 1) 0 ∷ getD (now (active .entry)) k 0 ∷ []) 2 (now (active .exit)) (now (lanes .exit)) live ⌝ }
+{
+    let i = active[k];
+    let j = active[k + 1];
+    active[k] = j;
+    active[k + 1] = i;
+    lanes[k] = NONE;
+    lanes[k + 1] = NONE;
 }

@@ -2,17 +2,17 @@
 use mathlib.Core.Path.{_≡_, refl, sym, ap, subst, _∙_}
 use mathlib.Core.Logic.{_≢_, _⊎_, ⊎-elim}
 use mathlib.Core.Bool.{true, false}
-use mathlib.Core.List.{List, [], _∷_, _++_, Memᴰ·append-left, Memᴰ·append-right, List·Memᴰ·append-cases}
+use mathlib.Core.List.{List, _++_, Memᴰ·append-left, Memᴰ·append-right, List·Memᴰ·append-cases}
 use mathlib.Core.List.{List·Memᴰ as In}
 use mathlib.Core.Option.{some}
-use Prim.Native.Nat.{ℕ, zero, suc, _+_, _*_, _<_}
+use Prim.Native.Nat.{ℕ, _+_, _*_, _<_}
 use native.Mathlib.Omega.{arith}
 use lib.IntN.{ℤ}
 use lib.ListN.{length, take, getD}
 use lib.Seq.{length-take-le, getD-take}
 use Rattle.fractions.specs.Point.{pointOrder}
 use Rattle.fractions.specs.declared.Point.{Point}
-use Rattle.sweep.specs.Lists.{upto, keep, Pairwise}
+use Rattle.sweep.specs.Lists.{upto, keep}
 use Rattle.sweep.specs.Chart.{Chart, crosses, kind, at}
 use Rattle.sweep.specs.Queue.{ends, beyond, least}
 use Rattle.sweep.specs.Geometry.{Occurs, Geometry}
@@ -36,16 +36,10 @@ use Rattle.full_ends.specs.Demand.{standing, Split}
 use Rattle.full_ends.proofs.Promises.{next-end}
 use Rattle.full_lanes.specs.Lanes.{noKey, pairAt, ProperPlaces}
 use Rattle.full_lanes.proofs.Promises.{some-open, opened, ahead-out, has-key, beside-keyed, least-is-ahead}
+use Rattle.full_lanes.proofs.Steeper.{at-two}
 use Rattle.full_next.specs.Next.{Next}
 use Rattle.full_ahead.specs.Coming.{Known}
 use Rattle.full_ahead.proofs.Least.{least-is}
-
--- of two members of a list, by their places
-pub at-two : (R : ℕ → ℕ → Type 0) (l : List ℕ) → Pairwise R l → (i j : ℕ) → i < j → j < length l → R (getD l i 0) (getD l j 0)
-at-two R [] u i j h k = absurd (omega arith)
-at-two R (x ∷ l) u i zero h k = absurd (omega arith)
-at-two R (x ∷ l) u zero (suc j) h k = u .0 (getD l j 0) (getD-in l j 0 (omega arith))
-at-two R (x ∷ l) u (suc i) (suc j) h k = at-two R l (u .1) i j (omega arith) (omega arith)
 
 module _ {n : ℕ} {table : List ℤ} {m : ℕ} {active keys : List ℕ} {live : ℕ} (W : Known n table m active keys live) where
   abbrev pub C : Chart

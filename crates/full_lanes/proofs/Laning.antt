@@ -22,7 +22,7 @@ use Rattle.full_steps.specs.InPlace.{lane}
 use Rattle.full_order.specs.Finer.{finer}
 use Rattle.full_points.specs.Spot.{keyOf}
 use Rattle.full_points.proofs.Keys.{key-lowest}
-use Rattle.full_lanes.specs.Lanes.{noKey, keyed, laneIn, pairAt, examined, meetingAt}
+use Rattle.full_lanes.specs.Lanes.{noKey, keyed, laneIn, pairAt, steeper, laneBySlope, examined, meetingAt}
 
 -- ---- the answer of the test
 pub the-key : (a b : LineSegment) → keyOf (cramerOf a b) ≡ keyOf (crossingOf a b)
@@ -65,10 +65,20 @@ pub second-lesser : (i j : ℕ) → j ≤ i → _≡_ {A = Pair} (j, i) (lesser-
 unfolding lesser-first
 second-lesser i j h = rw (le-ltb i j h)
 
+-- ---- by slope
+module _ (table : List ℤ) (p : Point) (i j : ℕ) where
+  pub lane-steep : steeper table i j ≡ true → keyed (laneIn table p (lesser-first i j)) ≡ laneBySlope table p i j
+  unfolding laneBySlope
+  lane-steep e = rw e
+
+  pub lane-flat : steeper table i j ≡ false → noKey ≡ laneBySlope table p i j
+  unfolding laneBySlope
+  lane-flat e = rw e
+
 -- ---- the lane of a place
 module _ (table : List ℤ) (active : List ℕ) (live k : ℕ) (p : Point) where
-  pub examined-two : k + 1 < live → keyed (laneIn table p (lesser-first (getD active k 0) (getD active (k + 1) 0))) ≡ examined table active live k p
-  unfolding examined pairAt
+  pub examined-two : k + 1 < live → laneBySlope table p (getD active k 0) (getD active (k + 1) 0) ≡ examined table active live k p
+  unfolding examined
   examined-two h = rw (lt-ltb (k + 1) live h)
 
   pub examined-last : live ≤ k + 1 → noKey ≡ examined table active live k p

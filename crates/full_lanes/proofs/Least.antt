@@ -18,7 +18,7 @@ use Rattle.fractions.proofs.Points.{left, placed, point-itself, point-turned, l
 use Rattle.sweep.specs.Ported.{isLess}
 use Rattle.full_points.specs.Spot.{Charted, keyOf}
 use Rattle.full_points.proofs.Keys.{key-less}
-use Rattle.full_lanes.specs.Lanes.{noKey, meetingAt, Taken, Keyed, LeastLane, Newer}
+use Rattle.full_lanes.specs.Lanes.{noKey, meetingAt, Taken, Keyed, LeastLane, Newer, Candidate}
 
 lt-or-le : (m n : ℕ) → (m < n) ⊎ (n ≤ m)
 lt-or-le m n = go (ltb m n) refl
@@ -29,6 +29,12 @@ lt-or-le m n = go (ltb m n) refl
 
 before-or-at : (j k : ℕ) → j < k + 1 → (j < k) ⊎ (j ≡ k)
 before-or-at j k i = ⊎-elim (λ (a : j < k). inl a) (λ (a : k ≤ j). inr (omega arith)) (lt-or-le j k)
+
+-- keys that are greater, and one more
+pub one-greater : (lanes : List ℕ) (least from k : ℕ) → ((i : ℕ) → from ≤ i → i < k → least < getD lanes i 0) → least < getD lanes k 0
+    → (i : ℕ) → from ≤ i → i < k + 1 → least < getD lanes i 0
+one-greater lanes least from k f g i a b =
+    ⊎-elim (λ (h : i < k). f i a h) (λ (e : i ≡ k). subst (λ (z : ℕ). least < getD lanes z 0) (sym e) g) (before-or-at i k b)
 
 no-less : {A : Type 0} → _≡_ {A = Bool} true false → A
 no-less e = absurd (let z : _≡_ {A = ℕ} 0 1 = cc in omega arith)
@@ -142,6 +148,25 @@ module _ (table : List ℤ) (active lanes : List ℕ) (live : ℕ) where
         go j (inr e) l =
             let r = w .leave refl (subst (λ (z : ℕ). getD lanes z 0 < noKey) e l) in
             (r .0, ap (λ (z : ℕ). isLess (pointOrder (meetingAt table active z) (meetingAt table active at))) e ∙ r .1)
+
+  -- greater keys are passed over
+  pub scan-skips : Keyed table active lanes live → (k at least r : ℕ) → Scan table active lanes live k at least → Candidate lanes k live least r → Scan table active lanes live r at least
+  scan-skips K k at least r s c =
+      record {
+        upto = c .within;
+        bound = s .bound;
+        start = s .start;
+        kept = s .kept;
+        passed = λ j i l. ⊎-elim (λ (b : j < k). s .passed j b l) (λ (b : k ≤ j). behind j i l (c .greater j b i)) (lt-or-le j k);
+      }
+    where
+      behind : (j : ℕ) → j < r → getD lanes j 0 < noKey → least < getD lanes j 0
+          → (least < noKey) × (isLess (pointOrder (meetingAt table active j) (meetingAt table active at)) ≡ false)
+      behind j i l g =
+          (older-key table active live j (getD lanes j 0) at least
+          (K .taken j (let w = c .within in omega arith))
+          (λ h. let e = s .kept h in subst (λ (n : ℕ). Taken table active live at n) (e .1) (K .taken at (e .0) (omega (arith, e .1)))) g)
+          .leave refl l
 
   pub scan-ends : (k at least : ℕ) → live ≤ k → Scan table active lanes live k at least → LeastLane table active lanes live at
   scan-ends k at least b s = go (lt-or-le least noKey)

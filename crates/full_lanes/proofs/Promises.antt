@@ -43,6 +43,7 @@ module _ (n : ℕ) (table : List ℤ) (last : Option Point) (q : Pair) where
 
   pub record Open : Type 0 where
     pub crosses : intersectOf (pieceIn table (q .0)) (pieceIn table (q .1)) ≡ Crossing
+    pub beyond-last : beyond (finer n (pieceIn table)) last (crossingOf (pieceIn table (q .0)) (pieceIn table (q .1))) ≡ true
     pub is : C-lane ≡ some (crossingOf (pieceIn table (q .0)) (pieceIn table (q .1)))
 
   open-of : ¬ (C-lane ≡ none) → Open
@@ -57,7 +58,7 @@ module _ (n : ℕ) (table : List ℤ) (last : Option Point) (q : Pair) where
       go Nothing e t f = absurd (h (unfold is-crossing in stands Nothing e t f))
       go (Overlap s) e t f = absurd (h (unfold is-crossing in stands (Overlap s) e t f))
       go Crossing e false f = absurd (h (unfold is-crossing in stands Crossing e false f))
-      go Crossing e true f = record { crosses = e; is = unfold is-crossing in stands Crossing e true f }
+      go Crossing e true f = record { crosses = e; beyond-last = f; is = unfold is-crossing in stands Crossing e true f }
 
   taken-open : keyed C-lane < noKey → Open
   taken-open h = open-of (λ e. omega (arith, ap keyed e))

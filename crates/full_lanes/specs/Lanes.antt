@@ -10,10 +10,10 @@ use lib.ListN.{length, getD}
 use Rattle.fractions.specs.Point.{pointOrder}
 use Rattle.fractions.specs.declared.Point.{Point}
 use Rattle.sweep.specs.Lists.{Pair, lesser-first}
-use Rattle.sweep.specs.Ported.{isLess}
+use Rattle.sweep.specs.Ported.{isLess, slopeOrder}
 use Rattle.sweep_geometry.specs.Demand.{Proper}
 use Rattle.ported_pieces.specs.Table.{pieceIn, roughAt}
-use Rattle.full_steps.specs.InPlace.{lane}
+use Rattle.full_steps.specs.InPlace.{isGreater, lane}
 use Rattle.full_order.specs.Finer.{finer}
 use Rattle.full_points.specs.Spot.{ChartPoint, keyOf}
 
@@ -33,9 +33,17 @@ laneIn table p q = lane (finer 0 (pieceIn table)) (some p) q
 unfoldable pub pairAt : List ℕ → ℕ → Pair
 pairAt active k = lesser-first (getD active k 0) (getD active (k + 1) 0)
 
+-- piece i is steeper than piece j
+abbrev pub steeper : List ℤ → ℕ → ℕ → Bool
+steeper table i j = isGreater (slopeOrder (pieceIn table i) (pieceIn table j))
+
+-- the key of the lane of i, which is in front, and j; none where i is not the steeper
+unfoldable pub laneBySlope : List ℤ → Point → ℕ → ℕ → ℕ
+laneBySlope table p i j = cond (steeper table i j) (keyed (laneIn table p (lesser-first i j))) noKey
+
 -- what stands beside place k after it is examined
 unfoldable pub examined : List ℤ → List ℕ → ℕ → ℕ → Point → ℕ
-examined table active live k p = cond (ltb (k + 1) live) (keyed (laneIn table p (pairAt active k))) noKey
+examined table active live k p = cond (ltb (k + 1) live) (laneBySlope table p (getD active k 0) (getD active (k + 1) 0)) noKey
 
 -- the first `live` places hold pieces of some length on the chart
 abbrev pub ProperPlaces : List ℤ → List ℕ → ℕ → Type 0
@@ -67,3 +75,10 @@ pub record LeastLane (table : List ℤ) (active lanes : List ℕ) (live r : ℕ)
 pub record Newer (table : List ℤ) (active : List ℕ) (k key at least : ℕ) (yes : Bool) : Type 0 where
   pub take : yes ≡ true → (key < noKey) × (least < noKey → isLess (pointOrder (meetingAt table active at) (meetingAt table active k)) ≡ false)
   pub leave : yes ≡ false → key < noKey → (least < noKey) × (isLess (pointOrder (meetingAt table active k) (meetingAt table active at)) ≡ false)
+
+-- the first place from `from` on whose key is no greater than `least`, or `live` where all are
+pub record Candidate (lanes : List ℕ) (from live least r : ℕ) : Type 0 where
+  pub begun : from ≤ r
+  pub within : r ≤ live
+  pub greater : (k : ℕ) → from ≤ k → k < r → least < getD lanes k 0
+  pub first : r < live → getD lanes r 0 ≤ least

@@ -9,10 +9,12 @@ ghost use Rattle.sweep.specs.Ported.{isLess};
 ghost use Rattle.sweep_geometry.specs.Demand.{Proper};
 ghost use Rattle.ported_pieces.specs.Table.{pieceIn, roughAt};
 ghost use Rattle.full_points.specs.Spot.{ChartPoint, keyOf};
-ghost use Rattle.full_lanes.specs.Lanes.{noKey, keyed, laneIn, examined, ProperPlaces, meetingAt, Taken, Keyed, LeastLane, Newer};
+ghost use Rattle.full_lanes.specs.Lanes.{noKey, keyed, laneIn, steeper, laneBySlope, examined, ProperPlaces, meetingAt, Taken, Keyed, LeastLane, Newer, Candidate};
+use fractions::Order;
 use fractions::Point;
 use full_points::key_of;
 use line_segment::Meeting;
+use ported_heights::slope_order;
 use ported_pieces::less;
 use ported_pieces::piece;
 use segment_crossing::cramer;
@@ -43,16 +45,32 @@ fn lane_between(table: &[i16], i: u8, j: u8, p: Point) -> u32
     }
 }
 
-// The key of the lane of two neighbours beyond p.
+// Piece i is steeper than piece j.
+fn is_steeper(table: &[i16], i: u8, j: u8) -> bool
+    ensures { λ r. ⌜ r ≡ steeper (now (table .entry)) i j ⌝ }
+{
+    match slope_order(piece(table, i as u16), piece(table, j as u16)) {
+        Order::Less => false,
+        Order::Equal => false,
+        Order::Greater => true,
+    }
+}
+
+// The key of the lane of i and j beyond p, i in front of j. Where i is not the steeper, they do not cross there.
 fn lane_of(table: &[i16], i: u8, j: u8, p: Point) -> u32
     requires { ⌜ Proper (pieceIn (now table) i) × Proper (pieceIn (now table) j) ⌝ }
-    ensures { λ r. ⌜ r ≡ keyed (laneIn (now (table .entry)) p (lesser-first i j)) ⌝ }
+    ensures { λ r. ⌜ r ≡ laneBySlope (now (table .entry)) p i j ⌝ }
 {
-    if i < j {
-        lane_between(table, i, j, p)
-    } else {
-        lane_between(table, j, i, p)
+    if !is_steeper(table, i, j) {
+        return NONE;
     }
+    let mut a = j;
+    let mut b = i;
+    if i < j {
+        a = i;
+        b = j;
+    }
+    lane_between(table, a, b, p)
 }
 
 // The lane of places k and k + 1.
@@ -111,6 +129,21 @@ fn comes_first(table: &[i16], active: &[u8], k: usize, key: u32, at: usize, leas
     less(meeting_at(table, active, k), meeting_at(table, active, at))
 }
 
+// The first place from `from` on whose key is no greater than `least`; `live` where all are.
+fn next_candidate(lanes: &[u32], from: usize, live: usize, least: u32) -> usize
+    requires { ⌜ (from ≤ live) × (live ≤ length (now lanes)) ⌝ }
+    ensures { λ r. ⌜ Candidate (now (lanes .entry)) from live least r ⌝ }
+{
+    let mut k = from;
+    while k < live {
+        if lanes[k] <= least {
+            break;
+        }
+        k += 1;
+    }
+    k
+}
+
 // The lane of the least crossing, or `live` where none is taken.
 pub fn least_lane(table: &[i16], active: &[u8], lanes: &[u32], live: usize) -> usize
     requires { ⌜ Keyed (now table) (now active) (now lanes) live ⌝ }
@@ -118,12 +151,14 @@ pub fn least_lane(table: &[i16], active: &[u8], lanes: &[u32], live: usize) -> u
 {
     let mut at = live;
     let mut least = NONE;
-    for k in 0..live {
+    let mut k = 0;
+    while k < live {
         let key = lanes[k];
         if comes_first(table, active, k, key, at, least) {
             at = k;
             least = key;
         }
+        k = next_candidate(lanes, k + 1, live, least);
     }
     at
 }

@@ -1,5 +1,5 @@
 -- Pairs written one by one: what is left to write from here gives the same bytes as all of it from the start.
-use mathlib.Core.Path.{_≡_, refl, sym, ap, ap₂, _∙_}
+use mathlib.Core.Path.{_≡_, refl, sym, ap, ap₂, subst, _∙_}
 use mathlib.Core.Bool.{Bool, true, false}
 use mathlib.Core.List.{List, [], _∷_, _++_, map}
 use Prim.Native.Nat.{ℕ, suc, _+_, _-_, _≤_, _<_}
@@ -52,6 +52,13 @@ module _ (all : List Pair) (lent : List ℕ) (end : ℕ) where
     pub rest-end : Rest all lent end [] b at → Listed all lent end b at
     unfolding flat
     rest-end R = record { bytes-are = R .same-bytes; end-is = omega (arith, R .same-end) }
+
+-- one pair
+pub pair-written : (a b : ℕ) {q : Pair} → _≡_ {A = Pair} (a, b) q → (lent : List ℕ) (end : ℕ) → Listed (q ∷ []) lent end (set (set lent end a) (end + 1) b) (end + 2)
+pair-written a b e lent end =
+    let l : List Pair = (a, b) ∷ [] in
+    subst (λ (q : Pair). Listed (q ∷ []) lent end (set (set lent end a) (end + 1) b) (end + 2)) e
+    (rest-end l lent end _ _ (rest-write l lent end lent end (a, b) [] (rest-start l lent end)))
 
 -- ---- what is left of a row, and of all rows
 module _ (f : Pair → Bool) (l : List ℕ) (k count : ℕ) (inside : k < count) (within : count ≤ length l) where

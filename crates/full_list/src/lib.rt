@@ -6,7 +6,7 @@ ghost use Prim.Native.Nat.{ℕ, _+_, _≤_, _<_};
 ghost use lib.ListN.{length, getD, take};
 ghost use lib.Seq.{slice};
 ghost use Rattle.fractions.specs.declared.Point.{Point};
-ghost use Rattle.sweep.specs.Lists.{keep, pairs};
+ghost use Rattle.sweep.specs.Lists.{keep, pairs, lesser-first};
 ghost use Rattle.full_points.specs.Spot.{Fair, Marks};
 ghost use Rattle.full_list.specs.Listed.{freshIn, partners, Roomy, Listed};
 use full_active::starts;
@@ -29,6 +29,22 @@ fn is_fresh(table: &[i16], p: Spot, i: u8, j: u8) -> bool
             starts(table, j, p)
         }
     }
+}
+
+// The pair of two pieces, the lesser number first; where the list ends now.
+pub fn list_pair(i: u8, j: u8, bytes: &mut [u8], end: usize) -> usize
+    requires { ⌜ end + 2 ≤ length (now bytes) ⌝ }
+    ensures { λ r. ⌜ Listed (lesser-first i j ∷ []) (now (bytes .entry)) end (now (bytes .exit)) r ⌝ }
+{
+    let mut a = j;
+    let mut b = i;
+    if i < j {
+        a = i;
+        b = j;
+    }
+    bytes[end] = a;
+    bytes[end + 1] = b;
+    end + 2
 }
 
 // The new pairs of the piece at place a with those behind it; where the list ends now.

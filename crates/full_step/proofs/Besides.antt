@@ -1,7 +1,7 @@
 -- After a step the lanes stand beside the active pieces again.
 use mathlib.Core.Path.{_≡_, sym, ap, subst, _∙_}
 use mathlib.Core.Logic.{_⊎_, inl, inr, ⊎-elim}
-use mathlib.Core.Bool.{true, false}
+use mathlib.Core.Bool.{true, false, cond}
 use mathlib.Core.Option.{Option, some}
 use mathlib.Core.List.{List, _++_}
 use Prim.Native.Nat.{ℕ, _+_, _-_, _≤_, _<_}
@@ -19,6 +19,8 @@ use Rattle.sweep.specs.Queue.{beyond}
 use Rattle.sweep.specs.Geometry.{Geometry}
 use Rattle.sweep.proofs.Tests.{ask}
 use Rattle.sweep.proofs.Ranked.{ranked}
+use Rattle.sweep.proofs.Between.{Lined}
+use Rattle.sweep_geometry.specs.Demand.{AllProper}
 use Rattle.ported_pieces.specs.Table.{pieceIn}
 use Rattle.full_steps.specs.Steps.{State, next}
 use Rattle.full_steps.specs.InPlace.{Sides, InPlaceFacts, below, block, above, renewed, lane}
@@ -26,9 +28,10 @@ use Rattle.full_steps.proofs.Step.{Inv}
 use Rattle.full_steps.proofs.Sides.{parts}
 use Rattle.full_steps.proofs.Placed.{whole-length}
 use Rattle.full_order.specs.Finer.{finer, sidesOf}
-use Rattle.full_lanes.specs.Lanes.{noKey, keyed, pairAt, examined}
+use Rattle.full_lanes.specs.Lanes.{noKey, keyed, pairAt, steeper, laneBySlope, examined}
 use Rattle.full_lanes.specs.Demand.{Beside}
 use Rattle.full_lanes.proofs.Laning.{lane-any, examined-two, examined-last}
+use Rattle.full_lanes.proofs.Steeper.{slope-enough}
 use Rattle.full_step.specs.Whole.{outerExamined}
 use Rattle.full_step.proofs.Relaned.{at-below, at-lower, at-inside, at-upper, at-above}
 use Rattle.full_step.proofs.Staying.{pair-front, pair-left, pair-right, stays-below, none-inside, stays-above}
@@ -42,7 +45,7 @@ order-of x y =
     ⊎-elim (λ (u : ltb y x ≡ true). inr (inr (ltb-true y x u))) (λ (u : ltb y x ≡ false). inr (inl (let g = ltb-false y x u in omega arith))) (ask (ltb y x)))
     (ask (ltb x y))
 
-module _ (n : ℕ) (table : List ℤ) where
+module _ (n : ℕ) (table : List ℤ) (ok : AllProper n (pieceIn table)) where
   abbrev C : Chart
   C = finer n (pieceIn table)
 
@@ -79,7 +82,7 @@ module _ (n : ℕ) (table : List ℤ) where
     module _ (active lanes : List ℕ) (live : ℕ) (holds : take live active ≡ s .active) (B : Beside n table (s .last) active lanes live)
         (rough : Point) (same : (c : Point) → pointOrder rough c ≡ pointOrder p c)
         (active′ lanes′ : List ℕ) (count : ℕ) (fits : count ≤ length active′) (fits-too : count ≤ length lanes′) (count-is : count ≡ lo + m + (live - hi))
-        (holds′ : take count active′ ≡ b ++ (r ++ a))
+        (holds′ : take count active′ ≡ b ++ (r ++ a)) (lined : Lined C (ranked C G) (take count active′) (some p))
         (is : take count lanes′ ≡ outerExamined table active′ count lo m rough (take lo lanes ++ (replicate m noKey ++ slice hi live lanes))) where
       lived : live ≡ hi + length a
       lived = sym (length-take-le live active (B .places)) ∙ ap length holds ∙ whole-length C S G A s I p hp
@@ -126,8 +129,11 @@ module _ (n : ℕ) (table : List ℤ) where
 
       -- a place that is examined
       right-examined : (i : ℕ) → i + 1 < count → getD lanes′ i 0 ≡ examined table active′ count i rough → Right i
-      unfolding pairAt
-      right-examined i h e = e ∙ sym (examined-two table active′ count i rough h) ∙ ap keyed (lane-any n table rough _ ∙ rough-lane p rough same _)
+      unfolding pairAt laneBySlope
+      right-examined i h e =
+          e ∙ sym (examined-two table active′ count i rough h)
+          ∙ ap (λ (v : ℕ). cond (steeper table (getD active′ i 0) (getD active′ (i + 1) 0)) v noKey) (ap keyed (lane-any n table rough _ ∙ rough-lane p rough same _))
+          ∙ slope-enough n table ok G active′ count fits p lined i h
 
       right : (i : ℕ) → i + 1 < count → Right i
       right i h =

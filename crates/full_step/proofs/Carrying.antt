@@ -17,6 +17,7 @@ use Rattle.sweep.specs.Lists.{Pair, keep, pairs, Pairwise}
 use Rattle.sweep.specs.Chart.{Chart}
 use Rattle.sweep.specs.Geometry.{Geometry}
 use Rattle.sweep.proofs.Ranked.{ranked}
+use Rattle.sweep.proofs.Between.{Lined}
 use Rattle.sweep_geometry.specs.Demand.{Proper}
 use Rattle.ported_arrays.specs.Agreement.{flat}
 use Rattle.ported_arrays.proofs.Flat.{flat-append}
@@ -159,15 +160,18 @@ module _ (n : ℕ) (table : List ℤ) (lent : List ℕ) (K : Given n table lent)
             active-is = active-now;
             lanes-are =
                 unfold step replaced in
-                beside-again n table G A s I p hp active lanes live (H .active-is) (H .lanes-are) rough (W .same-place) active′ lanes′ (r .live)
+                beside-again n table (K .proper) G A s I p hp active lanes live (H .active-is) (H .lanes-are) rough (W .same-place) active′ lanes′ (r .live)
                 (T .fits) (omega (arith, T .fits, H .alike)) (T′ .live-is)
-                (active-now ∙ same-active C S G A s I p hp) (T′ .lanes-are);
+                (active-now ∙ same-active C S G A s I p hp)
+                (subst (λ (l : List ℕ). Lined C (ranked C G) l (some p)) (sym active-now) ((step-inv C (ranked C G) s I p hp) .lined))
+                (T′ .lanes-are);
             bytes-are = bytes-now;
             end-is = end-now;
           }
 
     pub carries : CarriesOn n table lent s p rough spot active lanes live first last ends bytes end
-    carries = record { steppable = fit; carried = after }
+    unfolding fit
+    carries = record { steppable = fit; there = refl; carried = after }
 
   -- ---- at every step of a run
   once-listed : (G : Geometry C) (budget : ℕ) (p : Point) → next C (run C budget) ≡ some p → Pairwise (λ q r. q ≢ r) (reported C (run C budget) p)

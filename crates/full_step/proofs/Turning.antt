@@ -20,6 +20,14 @@ use Rattle.full_step.specs.Halves.{InBounds, Turnable, Turned, atPoint}
 use Rattle.full_step.specs.Whole.{outerExamined, Stepped}
 use Rattle.full_step.proofs.Outer.{outer-take}
 
+-- the pieces of an array have some length, where those of its first places do
+pub proper-places : (table : List ℤ) (active l : List ℕ) (live : ℕ) → live ≤ length active → take live active ≡ l → ((i : ℕ) → In i l → Proper (pieceIn table i)) → ProperPlaces table active live
+proper-places table active l live w e f k h =
+    f (getD active k 0)
+    (subst (λ (z : List ℕ). In (getD active k 0) z) e
+    (subst (λ (i : ℕ). In i (take live active)) (getD-take live active k 0 h)
+    (getD-in (take live active) k 0 (omega (arith, length-take-le live active w)))))
+
 module _ (table : List ℤ) (active lanes : List ℕ) (live lo hi : ℕ) (ends : List ℕ) (B : InBounds lo hi active ends) (U : Turnable active lanes live hi ends)
     (new active′ lanes₁ : List ℕ) (m : ℕ) (T : Turned active lanes live lo hi new active′ lanes₁ m)
     (same : length active′ ≡ length active) (beside : length lanes₁ ≡ length lanes) where
@@ -48,11 +56,7 @@ module _ (table : List ℤ) (active lanes : List ℕ) (live lo hi : ℕ) (ends :
       omega (arith, ap length (T .pieces-are), length-append (take lo active) (new ++ slice hi live active), length-append new (slice hi live active))
 
   pub turned-proper : ((i : ℕ) → In i (take lo active ++ (new ++ slice hi live active)) → Proper (pieceIn table i)) → ProperPlaces table active′ count
-  turned-proper f k h =
-      f (getD active′ k 0)
-      (subst (λ (l : List ℕ). In (getD active′ k 0) l) (T .pieces-are)
-      (subst (λ (i : ℕ). In i (take count active′)) (getD-take count active′ k 0 h)
-      (getD-in (take count active′) k 0 (omega (arith, length-take-le count active′ (omega (arith, turned-fits)))))))
+  turned-proper = proper-places table active′ _ count (omega (arith, turned-fits)) (T .pieces-are)
 
   pub stepped : (q p : Point) (bytes : List ℕ) (end : ℕ) (lanes′ bytes′ : List ℕ) (to : ℕ)
       → Listed (keep (freshIn table q) (pairs (atPoint lo hi active ends))) bytes end bytes′ to

@@ -2,4 +2,5 @@
 pub mod Halves
 pub mod Carried
 pub mod Whole
+pub mod Crossed
 pub mod Demand

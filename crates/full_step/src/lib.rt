@@ -12,13 +12,16 @@ ghost use Rattle.full_list.specs.Listed.{freshIn, Roomy, Listed};
 ghost use Rattle.full_lanes.specs.Lanes.{ProperPlaces};
 ghost use Rattle.full_step.specs.Halves.{InBounds, atPoint, newBlock, Marked, Turnable, Turned};
 ghost use Rattle.full_step.specs.Whole.{outerExamined, Steppable, Stepped};
+ghost use Rattle.full_step.specs.Crossed.{Crossable, Crossed};
 use charts::MOST;
 use fractions::Point;
+use full_active::exchange;
 use full_active::gather;
 use full_active::renew;
 use full_active::replace;
 use full_lanes::examine;
 use full_list::list_all;
+use full_list::list_pair;
 use full_points::Spot;
 
 // The new pairs of the pieces at the point; where the list ends now.
@@ -85,6 +88,26 @@ fn examine_outer(
 pub struct At {
     pub live: usize,
     pub end: usize,
+}
+
+// The step at p where the block is the two places from k on, which cross, and no end stands: they change places.
+pub fn cross(
+    table: &[i16],
+    p: Point,
+    active: &mut [u8],
+    lanes: &mut [u32],
+    live: usize,
+    k: usize,
+    bytes: &mut [u8],
+    end: usize,
+) -> At
+    requires { ⌜ Crossable (now table) (now active) (now lanes) live k (now bytes) end ⌝ }
+    ensures { λ r. ⌜ Crossed (now (table .entry)) p (now (active .entry)) (now (lanes .entry)) live k (now (bytes .entry)) end (now (active .exit)) (now (lanes .exit)) (now (bytes .exit)) r ⌝ }
+{
+    let to = list_pair(active[k], active[k + 1], bytes, end);
+    exchange(active, lanes, live, k);
+    examine_outer(table, active, lanes, live, k, 2, p);
+    At { live, end: to }
 }
 
 // The whole step at p, whose spot it is.

@@ -1,6 +1,9 @@
 // A visit of the next point of the new mode: the next end or the least crossing ahead, its block found, and the step done.
+ghost use mathlib.Core.Path.{_≡_};
+ghost use mathlib.Core.List.{[]};
 ghost use Prim.Native.Nat.{_<_, _^_};
 ghost use Rattle.full_ends.specs.Demand.{standing};
+ghost use Rattle.full_lanes.specs.Lanes.{meetingAt};
 ghost use Rattle.full_visit.specs.Visit.{Ready, Stepping, CrossAt, crossingAt, Waiting, Visiting};
 use fractions::Point;
 use full_active::search;
@@ -14,6 +17,7 @@ use full_next::next_lane;
 use full_points::spot_at;
 use full_points::spot_of;
 use full_step::At;
+use full_step::cross;
 use full_step::step;
 
 // Where a visit leaves a run: the ends passed, the pieces active, where the list ends; and the point, in lowest terms or not.
@@ -24,9 +28,10 @@ pub struct Visited {
     pub point: Point,
 }
 
-// The step at the crossing of places k and k + 1, where no end stands.
+// The step at p, the crossing of places k and k + 1, where no end stands. Mostly no other piece goes through it.
 fn at_crossing(
     table: &[i16],
+    p: Point,
     k: usize,
     none: &[u64],
     active: &mut [u8],
@@ -36,12 +41,15 @@ fn at_crossing(
     end: usize,
 ) -> At
     requires { ⌜ Ready (now table) (crossingAt (now table) (now active) k) (now none) (now active) (now lanes) live (now bytes) end × CrossAt (now table) (now active) live k ⌝ }
+    requires { ⌜ (p ≡ meetingAt (now table) (now active) k) × (now none ≡ []) ⌝ }
     ensures { λ r. ⌜ Stepping (now (table .entry)) (crossingAt (now (table .entry)) (now (active .entry)) k) (now (none .entry)) (now (active .entry)) (now (lanes .entry)) live (now (bytes .entry)) end (now (active .exit)) (now (lanes .exit)) (now (bytes .exit)) r ⌝ }
 {
-    let p = meeting_at(table, active, k);
     let spot = spot_of(p);
     let lo = widen_down(table, active, spot, k);
     let hi = widen_up(table, active, live, spot, k + 2);
+    if hi - lo == 2 {
+        return cross(table, p, active, lanes, live, k, bytes, end);
+    }
     step(
         table,
         p,
@@ -109,7 +117,7 @@ pub fn visit(
     let k = next_lane(table, active, lanes, live, key);
     if k < live {
         let point = meeting_at(table, active, k);
-        let at = at_crossing(table, k, &ends[..0], active, lanes, live, bytes, end);
+        let at = at_crossing(table, point, k, &ends[..0], active, lanes, live, bytes, end);
         return Visited {
             passed,
             live: at.live,

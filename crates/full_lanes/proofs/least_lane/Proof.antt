@@ -1,11 +1,10 @@
 -- `full_lanes::least_lane` meets its contract.
-use mathlib.Core.Path.{_≡_, sym, subst, _∙_}
-use mathlib.Core.Bool.{Bool, true, false}
+use mathlib.Core.Path.{_≡_, subst}
 use mathlib.Core.Logic.{⊎-elim}
-use Prim.Native.Nat.{ℕ, _-_}
+use Prim.Native.Nat.{ℕ, _+_, _-_}
 use native.Mathlib.Omega.{arith}
-use Rattle.full_lanes.specs.Lanes.{Taken, Newer}
-use Rattle.full_lanes.proofs.Least.{Scan, scan-begins, scan-takes, scan-leaves, scan-ends, kept-taken, wider}
+use Rattle.full_lanes.specs.Lanes.{Newer}
+use Rattle.full_lanes.proofs.Least.{Scan, scan-begins, scan-takes, scan-leaves, scan-skips, scan-ends, kept-taken, wider}
 use Rattle.full_lanes.proofs.least_lane.Statement.{statement}
 use Rattle.full_lanes.proofs.least_lane.Tie as tie
 
@@ -30,14 +29,12 @@ comes-first-requires c κs =
     let h = c .before .loop-test .taken in
     (λ l. wider (K .taken _ h l) (K .places), λ l. wider (kept-taken _ _ _ _ K _ _ _ h (c .before .before .loop .inv) l) (K .places))
 
-add-k : tie.Need-add-k Inv-loop μ-loop
-add-k c = omega arith
-
-loop-less : tie.Need-loop-less Inv-loop μ-loop
-loop-less c = omega arith
-
-loop-again : tie.Need-loop-again Inv-loop μ-loop
-loop-again c =
+-- the key of place k is passed, whichever is kept
+passed :
+    (c : tie.Joined1 Inv-loop μ-loop) →
+    let a = c .before .before .before .before .before .before .before .args in
+    Scan (a .table .now) (a .active .now) (a .lanes .now) (a .live) (c .before .before .before .before .loop .k + 1) (c .if1 .at) (c .if1 .least)
+passed c =
     let a = c .before .before .before .before .before .before .before .args in
     let K = c .before .before .before .before .before .before .before .pre in
     let s = c .before .before .before .before .loop .inv in
@@ -48,6 +45,18 @@ loop-again c =
     (λ b. rw (b .1, b .2) (scan-takes _ _ _ _ K k _ _ h s (subst (Newer (a .table .now) (a .active .now) k _ _ _) (b .0 .taken) w)))
     (λ b. rw (b .1, b .2) (scan-leaves _ _ _ _ K k _ _ h s (subst (Newer (a .table .now) (a .active .now) k _ _ _) (b .0 .left) w)))
     (c .if1 .came)
+
+add-next-candidate : tie.Need-add-next-candidate Inv-loop μ-loop
+add-next-candidate c = omega arith
+
+next-candidate-requires : tie.Need-next-candidate-requires Inv-loop μ-loop
+next-candidate-requires c κs = (omega arith, c .before .before .before .before .before .before .before .pre .room)
+
+loop-less : tie.Need-loop-less Inv-loop μ-loop
+loop-less c = omega (arith, c .next-candidate .ensures .begun)
+
+loop-again : tie.Need-loop-again Inv-loop μ-loop
+loop-again c = scan-skips _ _ _ _ (c .before .before .before .before .before .before .before .before .pre) _ _ _ _ (passed (c .before)) (c .next-candidate .ensures)
 
 returns : tie.Need-returns Inv-loop μ-loop
 returns c = scan-ends _ _ _ _ _ _ _ (c .loop-test .left) (c .before .loop .inv)
@@ -62,7 +71,8 @@ least-lane-spec =
     mul-key
     shared-slice-read-key
     comes-first-requires
-    add-k
+    add-next-candidate
+    next-candidate-requires
     loop-less
     loop-again
     returns)
