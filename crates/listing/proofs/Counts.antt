@@ -4,7 +4,7 @@ use mathlib.Core.Path.{_≡_, refl, ap}
 use mathlib.Core.Bool.{true}
 use mathlib.Core.List.{List, [], _∷_, map}
 use mathlib.Core.List.{List·Memᴰ as In}
-use Prim.Native.Nat.{ℕ, _*_, _≤_}
+use Prim.Native.Nat.{ℕ, _+_, _*_, _-_, _≤_}
 use native.Mathlib.Omega.{arith}
 use lib.IntN.{ℤ}
 use lib.ListN.{length, length-append, length-map}
@@ -34,7 +34,8 @@ unfolding pairs
 pairs-length [] = omega (arith, room-none)
 pairs-length (i ∷ l) = omega (arith, room-more (length l), length-append (map (λ j. (i, j)) l) (pairs l), length-map {B = Pair} l (λ j. (i, j)), pairs-length l)
 
-most-room : room most ≡ 4032
+-- as a product of numerals
+pub most-room : room most ≡ most * (most - 1)
 unfolding room
 most-room = refl
 
@@ -48,27 +49,27 @@ module _ (list : List ℤ) (n : ℕ) (e : verdictOf list ≡ Accepted n) where
   pub lists-only : (budget : ℕ) (q : Pair) → In q ((answer C budget) .listed) → Pieces C q × (meets (kind C q) ≡ true)
   lists-only budget q m = let t = promises .lists-exactly budget q .0 m in (t .0, t .1)
 
-  pub room-few : room n ≤ 4032
-  room-few = omega (arith, room-least n most (accepted-most list n e), most-room)
+  pub room-few : room n ≤ room most
+  room-few = room-least n most (accepted-most list n e)
 
-  all-few : 2 * length (all C) ≤ 4032
+  all-few : 2 * length (all C) ≤ room most
   unfolding all
   all-few = omega (arith, pairs-length (upto n), ap room (upto-length n), room-few)
 
-  meeting-few : 2 * length (meeting C) ≤ 4032
+  meeting-few : 2 * length (meeting C) ≤ room most
   unfolding meeting
   meeting-few = omega (arith, keep-fewer (λ q. meets (kind C q)) (all C), all-few)
 
-  pub listed-few : (budget : ℕ) → 2 * length ((answer C budget) .listed) ≤ 4032
+  pub listed-few : (budget : ℕ) → 2 * length ((answer C budget) .listed) ≤ room most
   listed-few budget =
       let within : (q : Pair) → In q ((answer C budget) .listed) → In q (all C) = λ q m. all-in C q (lists-only budget q m .0) in
       omega (arith, distinct-fit ((answer C budget) .listed) (all C) (promises .lists-once budget) within, all-few)
 
-  pub steps-few : (budget : ℕ) → (answer C budget) .steps ≤ 2144
+  pub steps-few : (budget : ℕ) → 2 * (answer C budget) .steps ≤ 4 * most + room most
   steps-few budget = omega (arith, promises .steps-bounded budget, meeting-few, accepted-most list n e)
 
   ended : (answer C largest) .ended ≡ true
-  ended = promises .ends-exactly largest .1 (omega (arith, promises .counts-steps (length (points C)), steps-few (length (points C))))
+  ended = promises .ends-exactly largest .1 (omega (arith, promises .counts-steps (length (points C)), steps-few (length (points C)), most-room))
 
 pub swept-to-the-end : SweptToTheEnd
 swept-to-the-end = ended

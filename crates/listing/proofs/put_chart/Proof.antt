@@ -8,6 +8,7 @@ use lib.Seq.{length-take-le}
 use Rattle.decimals.specs.Text.{ascii}
 use Rattle.decimals.proofs.Puts.{put-then, put-as}
 use Rattle.listing.specs.Listing.{chartLines}
+use Rattle.listing.proofs.Counts.{most-room}
 use Rattle.listing.proofs.Sweeps.{Listed, full-sweep}
 use Rattle.listing.proofs.put_chart.Statement.{statement}
 use Rattle.listing.proofs.put_chart.Tie as tie
@@ -15,15 +16,15 @@ use Rattle.listing.proofs.put_chart.Tie as tie
 full : (c : tie.After-sweep) → let list = c .before .before .before .args .list .now in Listed list (length list / 5) (c .sweep .result) (c .sweep .last .1 .1 .0)
 full c =
     let s = c .before .before .before in
-    full-sweep (s .args .list .now) (length (s .args .list .now) / 5) (s .pre) _ refl _ _ (c .sweep .ensures .0) (c .sweep .ensures .1)
+    full-sweep (s .args .list .now) (length (s .args .list .now) / 5) (s .pre) _ (omega (arith, most-room)) _ _ (c .sweep .ensures .0) (c .sweep .ensures .1)
 
 mul-bytes : tie.Need-mul-bytes
-mul-bytes c = record { fits = omega (arith, full (c .before .before) .few) }
+mul-bytes c = record { fits = omega (arith, full (c .before .before) .few, most-room) }
 
 array-share-prefix-pairs : tie.Need-array-share-prefix-pairs
 array-share-prefix-pairs c =
     let p = c .before .before .before .before .before .before .before .before .before .before in
-    omega (arith, full (p .before) .few, p .pairs2 .given)
+    omega (arith, full (p .before) .few, most-room, p .pairs2 .given)
 
 slice-aggregate-put-pairs : tie.Need-slice-aggregate-put-pairs
 slice-aggregate-put-pairs c = let r = c .before .before .before .before .before .before .before .before .before .before .before .before .sweep in sym (length-take-le (2 * r .result .pairs) (r .last .1 .1 .0) (array-share-prefix-pairs (c .before)))
