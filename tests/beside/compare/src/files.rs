@@ -10,8 +10,8 @@ use crate::kept;
 
 /// Bytes at which an answer changes: counts, kinds and last groups at their limits, and groups with
 /// their high bit set.
-const TELLING: [u8; 12] = [
-  0x00, 0x01, 0x02, 0x03, 0x04, 0x41, 0x7f, 0x80, 0x83, 0xc8, 0xc9, 0xff,
+const TELLING: [u8; 14] = [
+  0x00, 0x01, 0x02, 0x03, 0x04, 0x40, 0x41, 0x7f, 0x80, 0x83, 0xc8, 0xc9, 0xfe, 0xff,
 ];
 
 /// What comes before telling bytes: nothing, a kind, three coordinates.
@@ -49,6 +49,7 @@ pub fn sample() -> Vec<Vec<u8>> {
     files.push(write(&chart));
     files.extend(damaged(&chart).into_iter().map(|(bytes, _)| bytes));
   }
+  files.push(write(&widest()[..64].to_vec()));
   files.push(write(&widest()));
   let counts = counts([127, 128, 199, 200, 201, 255, 16_384].into_iter());
   files.extend(counts.into_iter().map(|(bytes, _)| bytes));
