@@ -1,5 +1,5 @@
 -- From what a file begins with to its reading: each row of `Due` gives the reading that it names.
-use mathlib.Core.Path.{_≡_, refl, sym, ap, ap₂, _∙_, subst}
+use mathlib.Core.Path.{_≡_, sym, ap, ap₂, _∙_, subst}
 use mathlib.Core.List.{List, [], _∷_, _++_, append-assoc}
 use Prim.Native.Nat.{ℕ, zero, suc, _+_, _*_, _%_, _≤_, _<_}
 use native.Mathlib.Omega.{arith}
@@ -24,6 +24,13 @@ use Rattle.chart_file.proofs.Begun.{place-one, rest-there, begins-front
 
 last-off : (xs : List ℤ) (m : ℕ) → length xs ≡ suc m → xs ≡ take m xs ++ (getD xs m (pos 0) ∷ [])
 last-off xs m l = sym (take-all (suc m) xs (omega arith)) ∙ take-suc xs m (pos 0) (omega arith)
+
+-- the pieces are read from the place after the count
+pub reading-pieces : (s : List ℕ) (n : ℕ) (t : List ℕ) → s ≡ countOf n ++ t → n ≤ most → readingOf s ≡ ended (length s) (pieces s (length (countOf n)) n)
+unfolding readingOf counted
+reading-pieces s n t e h =
+    let from = length (countOf n) in
+    rw (count-few s n from (spelled-read groups s 0 n t (omega arith) (omega arith) e ∙ ap (Value n) (zero-add from)) h)
 
 module _ (s : List ℕ) (b : Bytes s) (n : ℕ) where
   -- where the pieces begin
@@ -81,13 +88,9 @@ module _ (s : List ℕ) (b : Bytes s) (n : ℕ) where
 
   -- ---- the whole file
 
-  reading-pieces : (t : List ℕ) → s ≡ countOf n ++ t → n ≤ most → readingOf s ≡ ended (length s) (pieces s from n)
-  unfolding readingOf counted
-  reading-pieces t e h = rw (count-few s n from (spelled-read groups s 0 n t (omega arith) (omega arith) e ∙ ap (Value n) (zero-add from)) h)
-
   stopped-pieces : (t : List ℕ) (f q : ℕ) → s ≡ countOf n ++ t → n ≤ most → pieces s from n ≡ stopped f q → readingOf s ≡ stopped f q
   unfolding ended
-  stopped-pieces t f q e h k = reading-pieces t e h ∙ rw k
+  stopped-pieces t f q e h k = reading-pieces s n t e h ∙ rw k
 
   number-given : (p c f : ℕ) (xs : List ℤ) (rest : List ℕ) → p < n → c < 5 → length xs ≡ 5 * p + c → Begins s n p xs rest → Amiss rest (placeOf n xs) c f → readingOf s ≡ stopped f (placeOf n xs)
   number-given p c f xs rest h q l w a =
@@ -108,13 +111,13 @@ module _ (s : List ℕ) (b : Bytes s) (n : ℕ) where
   extra-given : (xs : List ℤ) (x : ℕ) (rest : List ℕ) → length xs ≡ 5 * n → Begins s n n xs (x ∷ rest) → readingOf s ≡ stopped 7 (placeOf n xs)
   unfolding ended
   extra-given xs x rest l w =
-      reading-pieces _ (w .file) (w .few)
+      reading-pieces s n _ (w .file) (w .few)
       ∙ rw (read-pieces n xs (x ∷ rest) l w, lt-ltb (placeOf n xs) (length s) (omega (arith, length-drop (placeOf n xs) s, ap length (rest-there s n n xs (x ∷ rest) w))))
 
   chart-given : (xs : List ℤ) → length xs ≡ 5 * n → Begins s n n xs [] → readingOf s ≡ due xs (placeOf n xs)
   unfolding ended
   chart-given xs l w =
-      reading-pieces _ (w .file) (w .few)
+      reading-pieces s n _ (w .file) (w .few)
       ∙ rw (read-pieces n xs [] l w, le-ltb (placeOf n xs) (length s) (omega (arith, length-drop (placeOf n xs) s, ap length (rest-there s n n xs [] w))))
 
 pub due-given : (s : List ℕ) → Bytes s → (r : Reading) → Due s r → readingOf s ≡ r
