@@ -1,7 +1,7 @@
 -- There is room for every pair, and so the arrays of a run agree with the sweep.
 use mathlib.Core.Path.{_≡_, refl, sym, ap, _∙_}
 use mathlib.Core.List.{List, [], _∷_, map}
-use Prim.Native.Nat.{ℕ, _+_, _≤_, _<_}
+use Prim.Native.Nat.{ℕ, _+_, _*_, _≤_, _<_}
 use native.Mathlib.Omega.{arith}
 use lib.IntN.{ℤ}
 use lib.ListN.{length, length-append, length-map}
@@ -39,7 +39,7 @@ module _ (n : ℕ) (table : List ℤ) (bytes : List ℕ) (few : n ≤ most) (lon
 
   pub has-room : Room (chartIn n table) places bytes
   has-room =
-      let r : room most ≡ 4032 = unfold room in refl in
+      let r : room most ≡ 2 * places = unfold room in refl in
       let l = room-least n most few in
       record { few = few; waits = omega (arith, twice, l, r); lists = omega (arith, flat-length (all (chartIn n table)), twice, lists) }
 

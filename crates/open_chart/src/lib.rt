@@ -8,15 +8,15 @@ ghost use Rattle.open_chart.specs.Memory.{places, memory, five, isUsed, 
 ghost use Rattle.open_chart.specs.Changes.{doneWith, refusedWith, changedOf, adding, dropping, afterAdding, afterDropping, emptyingOf, afterEmptying, usedOf};
 ghost use Rattle.open_chart.specs.Listing.{Gathered, renamed, openPairsOf, lentAfter};
 use charts::Answer;
+use charts::MOST;
 use line_segment::LineSegment;
-use naive::HELD;
 use naive::Pieces;
 
-// So many places has an open chart.
-pub const PLACES: usize = HELD;
+// So many places has an open chart: no more than a list may have pieces.
+pub const PLACES: usize = 200;
 
 // So many numbers its memory takes, five a place.
-pub const NUMBERS: usize = 1000;
+pub const NUMBERS: usize = 5 * PLACES;
 
 // Each number of a free place, as the calls here leave it.
 const FREE: i32 = -1;
@@ -33,7 +33,7 @@ pub struct Changed {
 
 // The pieces of the used places, in order, and the numbers of those places.
 pub struct Standing {
-    pub all: [LineSegment; PLACES],
+    pub all: [LineSegment; MOST],
     pub names: [u8; PLACES],
     pub count: usize,
 }
@@ -153,7 +153,7 @@ fn gather(chart: &[i32]) -> Standing
     requires { ⌜ memory ≤ length (now chart) ⌝ }
     ensures { λ r. ⌜ Gathered (now (chart .entry)) places (r .all) (r .names) (r .count) ⌝ }
 {
-    let mut all = [segment_test::piece(0, 0, 0, 0, 0); PLACES];
+    let mut all = [segment_test::piece(0, 0, 0, 0, 0); MOST];
     let mut names = [0; PLACES];
     let mut count = 0;
     for i in 0..PLACES {
