@@ -52,21 +52,21 @@ module _ (list : List ℤ) (n : ℕ) (e : verdictOf list ≡ Accepted n) where
   pub room-few : room n ≤ room most
   room-few = room-least n most (accepted-most list n e)
 
-  all-few : 2 * length (all C) ≤ room most
+  all-few : 2 * length (all C) ≤ room n
   unfolding all
-  all-few = omega (arith, pairs-length (upto n), ap room (upto-length n), room-few)
+  all-few = omega (arith, pairs-length (upto n), ap room (upto-length n))
 
-  meeting-few : 2 * length (meeting C) ≤ room most
+  meeting-few : 2 * length (meeting C) ≤ room n
   unfolding meeting
   meeting-few = omega (arith, keep-fewer (λ q. meets (kind C q)) (all C), all-few)
 
-  pub listed-few : (budget : ℕ) → 2 * length ((answer C budget) .listed) ≤ room most
+  pub listed-few : (budget : ℕ) → 2 * length ((answer C budget) .listed) ≤ room n
   listed-few budget =
       let within : (q : Pair) → In q ((answer C budget) .listed) → In q (all C) = λ q m. all-in C q (lists-only budget q m .0) in
       omega (arith, distinct-fit ((answer C budget) .listed) (all C) (promises .lists-once budget) within, all-few)
 
   pub steps-few : (budget : ℕ) → 2 * (answer C budget) .steps ≤ 4 * most + room most
-  steps-few budget = omega (arith, promises .steps-bounded budget, meeting-few, accepted-most list n e)
+  steps-few budget = omega (arith, promises .steps-bounded budget, meeting-few, room-few, accepted-most list n e)
 
   ended : (answer C largest) .ended ≡ true
   ended = promises .ends-exactly largest .1 (omega (arith, promises .counts-steps (length (points C)), steps-few (length (points C)), most-room))

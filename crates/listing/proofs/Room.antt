@@ -24,7 +24,7 @@ use Rattle.listing_lines.specs.Lines.{countLine, pairLine, pairLines}
 use Rattle.listing.specs.Listing.{largest, chartLines, chartText, textOf, listingOf, longestText}
 use Rattle.listing.specs.Demand.{Fits}
 use Rattle.listing_lines.proofs.Widths.{count-width, complete-width, pair-width}
-use Rattle.listing.proofs.Counts.{most-room, lists-only, listed-few, steps-few}
+use Rattle.listing.proofs.Counts.{most-room, room-few, lists-only, listed-few, steps-few}
 
 -- ---- a chart
 module _ (list : List ℤ) (n : ℕ) (e : verdictOf list ≡ Accepted n) where
@@ -35,7 +35,7 @@ module _ (list : List ℤ) (n : ℕ) (e : verdictOf list ≡ Accepted n) where
       (pieces-have-length list n (q .0) e (omega arith)) (pieces-have-length list n (q .1) e (h .1))
       (given-in-range list (q .0)) (given-in-range list (q .1)) (omega arith) (omega arith)
 
-  lines-width : (ps : List Pair) → ((q : Pair) → In q ps → (q .0 < q .1) × (q .1 < n)) → length (pairLines list ps) ≤ 47 * length ps
+  pub lines-width : (ps : List Pair) → ((q : Pair) → In q ps → (q .0 < q .1) × (q .1 < n)) → length (pairLines list ps) ≤ 47 * length ps
   unfolding pairLines
   lines-width [] h = omega arith
   lines-width (q ∷ ps) h =
@@ -57,6 +57,7 @@ module _ (list : List ℤ) (n : ℕ) (e : verdictOf list ≡ Accepted n) where
         complete-width (swept .complete),
         lines-width (swept .listed) (λ q m. lists-only list n e largest q m .0),
         listed-few list n e largest,
+        room-few list n e,
         most-room,
         count-width (ascii "steps ") (swept .steps) 9 (omega (arith, steps-few list n e largest, most-room)),
       ))

@@ -32,7 +32,9 @@ pairs-again (p ∷ ps) = ap (λ (l : List Pair). p ∷ l) (pairs-again ps)
 
 -- what was answered and left is what the listing prints
 pub record Listed (list : List ℤ) (n : ℕ) (r : Swept) (after : List ℕ) : Type 0 where
-  pub few : 2 * r .pairs ≤ room most
+  pub few : 2 * r .pairs ≤ room n
+  pub pairs : pairsIn (take (2 * r .pairs) after) ≡ (answer (finer n (pieceAt list)) largest) .listed
+  pub steps : r .steps ≡ (answer (finer n (pieceAt list)) largest) .steps
   pub text : chartLines list n (r .complete) (pairsIn (take (2 * r .pairs) after)) (r .steps) ≡ chartText list n
 
 module _ (list : List ℤ) (n : ℕ) (e : verdictOf list ≡ Accepted n) (lent : List ℕ) (l : room most ≤ length lent) where
@@ -57,4 +59,4 @@ module _ (list : List ℤ) (n : ℕ) (e : verdictOf list ≡ Accepted n) (lent :
   full-sweep r after h k =
       let a = answer (finer n (pieceAt list)) largest in
       rw (h ∙ swept-is, k)
-      (record { few = listed-few list n e largest; text = ap (λ (ps : List Pair). chartLines list n (a .complete) ps (a .steps)) pairs-are })
+      (record { few = listed-few list n e largest; pairs = pairs-are; steps = refl; text = ap (λ (ps : List Pair). chartLines list n (a .complete) ps (a .steps)) pairs-are })

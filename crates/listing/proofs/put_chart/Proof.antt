@@ -1,14 +1,15 @@
 -- `put_chart` meets its contract: the lines of a full sweep, one after another.
 use borrow.Author.Needs.{needs}
 use mathlib.Core.Path.{refl, sym}
-use Prim.Native.Nat.{_*_, _/_}
+use Prim.Native.Nat.{_*_, _-_, _/_, _≤_}
 use native.Mathlib.Omega.{arith}
 use lib.ListN.{length}
 use lib.Seq.{length-take-le}
+use Rattle.charts.specs.Chart.{most}
 use Rattle.decimals.specs.Text.{ascii}
 use Rattle.decimals.proofs.Puts.{put-then, put-as}
 use Rattle.listing.specs.Listing.{chartLines}
-use Rattle.listing.proofs.Counts.{most-room}
+use Rattle.listing.proofs.Counts.{most-room, room-few}
 use Rattle.listing.proofs.Sweeps.{Listed, full-sweep}
 use Rattle.listing.proofs.put_chart.Statement.{statement}
 use Rattle.listing.proofs.put_chart.Tie as tie
@@ -18,13 +19,18 @@ full c =
     let s = c .before .before .before in
     full-sweep (s .args .list .now) (length (s .args .list .now) / 5) (s .pre) _ (omega (arith, most-room)) _ _ (c .sweep .ensures .0) (c .sweep .ensures .1)
 
+few : (c : tie.After-sweep) → 2 * c .sweep .result .pairs ≤ most * (most - 1)
+few c =
+    let s = c .before .before .before in
+    omega (arith, full c .few, room-few (s .args .list .now) (length (s .args .list .now) / 5) (s .pre), most-room)
+
 mul-bytes : tie.Need-mul-bytes
-mul-bytes c = record { fits = omega (arith, full (c .before .before) .few, most-room) }
+mul-bytes c = record { fits = omega (arith, few (c .before .before)) }
 
 array-share-prefix-pairs : tie.Need-array-share-prefix-pairs
 array-share-prefix-pairs c =
     let p = c .before .before .before .before .before .before .before .before .before .before in
-    omega (arith, full (p .before) .few, most-room, p .pairs2 .given)
+    omega (arith, few (p .before), p .pairs2 .given)
 
 slice-aggregate-put-pairs : tie.Need-slice-aggregate-put-pairs
 slice-aggregate-put-pairs c = let r = c .before .before .before .before .before .before .before .before .before .before .before .before .sweep in sym (length-take-le (2 * r .result .pairs) (r .last .1 .1 .0) (array-share-prefix-pairs (c .before)))
