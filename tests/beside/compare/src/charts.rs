@@ -285,7 +285,8 @@ pub fn full_size(random: &mut Random) -> Chart {
 /// there may be at points of their own.
 pub fn fullest() -> Vec<Chart> {
   let numbers = || 0..MOST_PIECES as i32;
-  let every_two_cross = numbers().map(|i| [3, -LIMIT, 8_200 + 120 * i, LIMIT, 32_700 - i * (i + 1) / 2]);
+  let every_two_cross =
+    numbers().map(|i| [3, -LIMIT, 8_200 + 120 * i, LIMIT, 32_700 - i * (i + 1) / 2]);
   let from_one_point = numbers().map(|i| [i % 4, -LIMIT, 0, LIMIT, 150 * i - 15_000]);
   let through_one_point = numbers().map(|i| [3, -200, i - 100, 200, 100 - i]);
   let on_one_line = numbers().map(|i| [i % 4, 7 * i, 3 * i, 7 * i + 28, 3 * i + 12]);
