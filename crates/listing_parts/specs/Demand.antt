@@ -19,27 +19,33 @@ unfoldable pub joined : (ℕ → List ℕ) → ℕ → List ℕ
 joined part zero = []
 joined part (suc k) = joined part k ++ part k
 
--- what a caller has who read a file and swept its list to the end, with room for the largest chart: by the contracts of both
-pub record SweptFile (file : List ℕ) (read : Answer) (list : List ℤ) (swept : Swept) (pairs : List ℕ) : Type 0 where
-  pub numbers : List ℤ
+-- what the reader made of a file, with room for the numbers of the largest chart: its answer's number, and the list in front
+pub record ReadList (number : ℕ) (list : List ℤ) : Type 0 where
+  pub file : List ℕ
+  pub bytes : Bytes file
+  pub lent : List ℤ
+  pub room-lent : 5 * most ≤ length lent
+  pub read : Answer
   pub after : List ℤ
-  pub lent : List ℕ
-  pub numbers-lent : 5 * most ≤ length numbers
-  pub room-lent : room most ≤ length lent
-  pub reads : Reads file numbers read after
+  pub reads : Reads file lent read after
+  pub answered : number ≡ read .number
   pub front : list ≡ take (5 * read .count) after
-  pub sweeps : swept ≡ sweepOf list largest (length lent)
-  pub listed : pairs ≡ take (2 * swept .pairs) (lentAfter list largest lent)
 
-module _ (file : List ℕ) (read : Answer) (list : List ℤ) (swept : Swept) (pairs : List ℕ) where
-  -- the parts one after the other are the listing: none is left out, and none stands twice
-  abbrev pub PrintsAll : Type 0
-  PrintsAll =
-      Bytes file → SweptFile file read list swept pairs
-      → joined (partOf (read .number) list swept pairs) (partsOf (length pairs)) ≡ listingOf file
+-- what the sweep made of that list, with room for every pair of the largest chart: its answer, and the pairs in front
+pub record SweptList (list : List ℤ) (swept : Swept) (pairs : List ℕ) : Type 0 where
+  pub lent : List ℕ
+  pub room-lent : room most ≤ length lent
+  pub answered : swept ≡ sweepOf list largest (length lent)
+  pub front : pairs ≡ take (2 * swept .pairs) (lentAfter list largest lent)
 
-  -- there is room for every part
-  abbrev pub PartFits : Type 0
-  PartFits =
-      Bytes file → SweptFile file read list swept pairs
-      → (part : ℕ) → length (partOf (read .number) list swept pairs part) ≤ longestPart
+-- the parts one after the other are the listing: none is left out, and none stands twice
+abbrev pub PrintsAll : Type 0
+PrintsAll =
+    (number : ℕ) (list : List ℤ) (swept : Swept) (pairs : List ℕ) → (r : ReadList number list) → SweptList list swept pairs
+    → joined (partOf number list swept pairs) (partsOf (length pairs)) ≡ listingOf (r .file)
+
+-- there is room for every part
+abbrev pub PartFits : Type 0
+PartFits =
+    (number : ℕ) (list : List ℤ) (swept : Swept) (pairs : List ℕ) → ReadList number list → SweptList list swept pairs
+    → (part : ℕ) → length (partOf number list swept pairs part) ≤ longestPart

@@ -1,10 +1,11 @@
 // The listing of a chart file in parts, each put into lent bytes that hold no more than it: what the chart program prints.
 ghost use mathlib.Core.Path.{_≡_};
-ghost use Prim.Native.Nat.{_*_};
+ghost use Prim.Native.Nat.{_*_, _≤_};
 ghost use lib.ListN.{length, take, drop};
 ghost use Rattle.decimals.specs.Text.{text as Text·text, put};
 ghost use Rattle.listing_lines.specs.Lines.{pairsIn, pairLines};
 ghost use Rattle.listing_parts.specs.Parts.{partBytes, partsOf, headOf, footOf, partOf};
+ghost use Rattle.listing_parts.specs.Demand.{ReadList};
 use bentley_ottmann::Swept;
 use charts::MOST;
 use libc::STDOUT_FILENO;
@@ -80,16 +81,25 @@ pub fn put_part(
     put_foot(swept.steps, pairs.len(), part, text, listed)
 }
 
+// Writes a part that has room.
+fn write_part(number: u8, list: &[i32], swept: Swept, pairs: &[u8], part: usize, text: &mut [u8])
+    requires { ⌜ length (partOf number (now list) swept (now pairs) part) ≤ length (now text) ⌝ }
+{
+    let end = put_part(number, list, swept, pairs, part, text);
+    io::write_all(STDOUT_FILENO, &text[..end]);
+}
+
 // Sweeps a list that was read with this number, and writes its parts one after the other.
-fn print_list(number: u8, list: &[i32]) {
+fn print_list(number: u8, list: &[i32])
+    requires { ⌜ ReadList number (now list) ⌝ }
+{
     let mut pairs = [0u8; MOST * (MOST - 1)];
     let swept = full_sweep::sweep(list, u32::MAX, &mut pairs);
     let bytes = 2 * swept.pairs;
     let parts = parts_of(bytes);
     let mut text = [0u8; LONGEST];
     for part in 0..parts {
-        let end = put_part(number, list, swept, &pairs[..bytes], part, &mut text);
-        io::write_all(STDOUT_FILENO, &text[..end]);
+        write_part(number, list, swept, &pairs[..bytes], part, &mut text);
     }
 }
 

@@ -5,14 +5,17 @@ use Prim.Native.Nat.{_*_, _≤_}
 use native.Mathlib.Omega.{arith}
 use lib.Seq.{length-take-le}
 use Rattle.charts.specs.Chart.{most}
+use Rattle.chart_file.specs.Groups.{Bytes}
 use Rattle.chart_file.proofs.Counts.{bytes-given, read-most}
+use Rattle.listing_parts.proofs.Printed.{of-read}
 use Rattle.listing_parts.proofs.print.Statement.{statement}
 use Rattle.listing_parts.proofs.print.Tie as tie
 
+bytes : (q : tie.After-read) → Bytes (q .before .before .before .args .file .now)
+bytes q = bytes-given (q .before .before .before .args .file .now) (λ i. omega (arith, q .before .before .shared-slice-known .given i))
+
 few : (q : tie.After-read) → q .read .result .count ≤ most
-few q =
-    let s = q .before .before .before .args .file .now in
-    read-most s _ _ _ (bytes-given s (λ i. omega (arith, q .before .before .shared-slice-known .given i))) (omega arith) (q .read .ensures)
+few q = read-most _ _ _ _ (bytes q) (omega arith) (q .read .ensures)
 
 mul-end : tie.Need-mul-end
 mul-end c = record { fits = omega (arith, few (c .before .before)) }
@@ -25,6 +28,9 @@ slice-aggregate-print-list c =
     let q = c .before .before .before in
     sym (length-take-le (5 * q .read .result .count) (q .read .last .1 .0) (omega (arith, few q, c .before .before .list2 .given)))
 
+print-list-requires : tie.Need-print-list-requires
+print-list-requires c κs = let q = c .before .before .before in of-read _ _ _ _ (bytes q) (omega arith) (q .read .ensures)
+
 pub print-spec : {M : Type 1} → statement M
 print-spec =
     tie.close
@@ -34,5 +40,5 @@ print-spec =
     mul-end
     array-share-prefix-list
     slice-aggregate-print-list
-    (λ c κs. search needs)
+    print-list-requires
     (λ c. search needs))
