@@ -6,13 +6,16 @@ use std::io::{Error, Result};
 use std::path::Path;
 
 use crate::answers::{Chart, Swept};
-use crate::bench::{BATCHES, ask, least, tempers};
+use crate::bench::{BATCHES, SIZES, ask, least, tempers};
 use crate::bench_sweep::{cgal_text, instructions, told, where_had};
 use crate::lent::room;
 use crate::library;
 use crate::refusals::numbers;
 
 const IN_TURN: usize = 64;
+
+/// A batch takes about so many steps, or one round; where that is more, there are fewer batches.
+const MANY_STEPS: usize = 40_000;
 
 type Call = fn(&[i32], u32, &mut [u8]) -> Swept;
 
@@ -21,13 +24,13 @@ pub fn print(programs: &Path) -> Result<()> {
     "| chart | pieces | charts in turn | pairs | steps | new, us | ported, us | CGAL, us | ported / new | CGAL / new | instructions, thousands |"
   );
   println!("|---|---|---|---|---|---|---|---|---|---|---|");
-  let charts: Vec<[(&str, Chart); 4]> = (0..IN_TURN).map(tempers).collect();
+  let of_size = |n| (0..IN_TURN).map(move |i| tempers(i, n)).collect();
+  let sizes: [Vec<[(&str, Chart); 4]>; 3] = SIZES.map(of_size);
   for temper in 0..4 {
-    for n in [16, 64] {
-      let cut = |charts: &[(&str, Chart); 4]| charts[temper].1[..n].to_vec();
-      let charts_of: Vec<Chart> = charts.iter().map(cut).collect();
+    for charts in &sizes {
+      let (name, charts): (Vec<_>, Vec<Chart>) = charts.iter().map(|c| c[temper].clone()).unzip();
       for count in [1, IN_TURN] {
-        row(charts[0][temper].0, &charts_of[..count], programs)?;
+        row(name[0], &charts[..count], programs)?;
       }
     }
   }
@@ -44,18 +47,24 @@ fn row(name: &str, charts: &[Chart], programs: &Path) -> Result<()> {
     .collect();
   let pairs: usize = swept.iter().map(|swept| swept.pairs).sum();
   let steps: u32 = swept.iter().map(|swept| swept.steps).sum();
-  let rounds = (40_000 / steps as usize).max(1);
+  let rounds = (MANY_STEPS / steps as usize).max(1);
+  let batches = (BATCHES * MANY_STEPS / steps as usize).clamp(3, BATCHES);
   let mut time = |call: Call| {
     let round = || {
       for list in &lists {
         black_box(call(black_box(list), u32::MAX, &mut bytes));
       }
     };
-    least(BATCHES, rounds, round) / count as f64
+    least(batches, rounds, round) / count as f64
   };
   let (new, ported) = (time(library::full_sweep), time(library::sweep));
   let question = cgal_text(&lists);
-  let cgal = where_had(ask(&programs.join("cgal"), rounds * count, &question))?;
+  let cgal = where_had(ask(
+    &programs.join("cgal"),
+    batches,
+    rounds * count,
+    &question,
+  ))?;
   // no end of these charts is another's, so that every other point is a crossing; CGAL tells each once
   let crossings = steps as usize - 2 * n * count;
   if cgal.is_some_and(|(told, _)| told != crossings) {
