@@ -2,7 +2,7 @@
 use borrow.Author.Needs.{needs}
 use native.Mathlib.Omega.{arith}
 use lib.ListN.{getD, length-set}
-use Rattle.full_active.specs.Replaced.{noLane}
+use Rattle.full_lanes.specs.Lanes.{noKey}
 use Rattle.full_active.proofs.Shifting.{two-set}
 use Rattle.full_active.proofs.moves.exchange.Statement.{statement}
 use Rattle.full_active.proofs.moves.exchange.Tie as tie
@@ -53,7 +53,7 @@ returns c =
     record {
       count = omega arith;
       pieces-are = two-set (a .active .now) (a .live) (a .k) _ _ (s .pre .0) (s .pre .1);
-      lanes-are = two-set (a .lanes .now) (a .live) (a .k) noLane noLane (s .pre .0) (omega (arith, s .pre .1, s .pre .2));
+      lanes-are = two-set (a .lanes .now) (a .live) (a .k) noKey noKey (s .pre .0) (omega (arith, s .pre .1, s .pre .2));
     }
 
 pub exchange-spec : {M : Type 1} → statement M
