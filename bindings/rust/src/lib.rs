@@ -283,8 +283,6 @@ pub fn full_sweep<'a>(list: &[i32], budget: u32, lent: &'a mut [u8]) -> Result<S
   told(swept, lent)
 }
 
-/// Sweeps as the Rust does, step by step. Where no piece is upright the answer is that of [`full_sweep`], at every budget, but for the pairs examined;
-/// with upright pieces some pairs may be missing, and it is not complete.
 /// Lists the pairs of a chart's pieces that meet, lesser number first, in the order of their first common points, then of the
 /// lesser number, then of the greater. None of the pieces may be upright. At least [`pairs_room`] of its pieces is to be lent;
 /// bytes past the last pair keep their values. [`sweep`], once it has ended, gives the same pairs.
@@ -296,9 +294,10 @@ pub fn plain_order<'a>(list: &[i32], lent: &'a mut [u8]) -> Result<&'a [Pair], R
   Ok(&lent.as_chunks().0[..count])
 }
 
-/// Sweeps a chart's pieces from left to right for at most `budget` steps, a visited point each, and lists pairs that
-/// meet in lent bytes, where no piece is upright by their first common point. At least [`pairs_room`] of its pieces is to be lent; bytes past the
-/// last pair keep their values.
+/// Sweeps a chart's pieces as the Rust does, step by step, for at most `budget` steps, a visited point each, and lists
+/// pairs that meet in lent bytes, where no piece is upright by their first common point. Where none is, the answer is that
+/// of [`full_sweep`], at every budget, but for the pairs examined; with upright pieces some pairs may be missing, and it is
+/// not complete. At least [`pairs_room`] of its pieces is to be lent; bytes past the last pair keep their values.
 pub fn sweep<'a>(list: &[i32], budget: u32, lent: &'a mut [u8]) -> Result<Swept<'a>, Refusal> {
   // SAFETY: both pointers are good for their lengths, and the lent bytes are borrowed alone.
   let swept =

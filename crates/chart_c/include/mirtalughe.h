@@ -267,7 +267,8 @@ mirtalughe_met mirtalughe_meeting(const int32_t *list, size_t length);
 
 /* Where the two pieces of a list meet; `length` is MIRTALUGHE_TWO_PIECES. Along, the values are the stretch's ends,
    whole and exact, and so is the one point of two pieces on one line. At, each is the double nearest to the exact
-   value, ties to even, within 1/2^39 of it, and never negative zero; for this the processor's rounding mode is the default one, to the nearest, during the call. */
+   value, ties to even, within 1/2^39 of it, and never negative zero; for this the processor's rounding mode is the
+   default one, to the nearest, during the call. */
 mirtalughe_placed mirtalughe_place(const int32_t *list, size_t length);
 
 /* Every pair of a list's n pieces that meet, two bytes a pair, the greater number first: for a from 0, for b below a.
