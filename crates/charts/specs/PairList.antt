@@ -17,3 +17,9 @@ module _ {A : Type 0} where
 unfoldable pub bytes : List Pair → List ℕ
 bytes [] = []
 bytes (p ∷ ps) = p .0 ∷ p .1 ∷ bytes ps
+
+-- the pairs that bytes stand for
+unfoldable pub pairsIn : List ℕ → List Pair
+pairsIn [] = []
+pairsIn (a ∷ []) = []
+pairsIn (a ∷ b ∷ l) = (a, b) ∷ pairsIn l

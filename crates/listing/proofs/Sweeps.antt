@@ -1,21 +1,18 @@
 -- What a full sweep of an accepted list answers, and the pairs in front of the lent bytes.
 -- Assumes nothing.
-use mathlib.Core.Path.{_≡_, refl, ap, _∙_}
-use mathlib.Core.List.{List, [], _∷_}
+use mathlib.Core.Path.{_≡_, ap, _∙_}
+use mathlib.Core.List.{List}
 use Prim.Native.Nat.{ℕ, _*_, _≤_}
 use native.Mathlib.Nat.{le-trans}
-use native.Mathlib.Omega.{arith}
 use lib.IntN.{ℤ}
-use lib.ListN.{length, take, drop}
-use lib.Seq.{take-at}
+use lib.ListN.{length, take}
 use borrow.Author.Tests.{le-ltb}
 use Rattle.charts.specs.Chart.{most, verdictOf}
 use Rattle.charts.specs.Answer.{room}
 use Rattle.charts.specs.Answer.{listingOf as verdictFor}
 use Rattle.charts.specs.Piece.{pieceAt}
 use Rattle.charts.specs.declared.Verdict.the-variants.{Accepted}
-use Rattle.naive.specs.Pairs.{bytes, over}
-use Rattle.naive.proofs.Rows.{bytes-length}
+use Rattle.naive.proofs.Reading.{read-back}
 use Rattle.sweep.specs.Lists.{Pair}
 use Rattle.full_steps.specs.Steps.{answer}
 use Rattle.full_order.specs.Finer.{finer}
@@ -24,11 +21,6 @@ use Rattle.full_sweep.specs.Swept.{saying, sweptBy, listedOver, sweepOf, lentAf
 use Rattle.listing_lines.specs.Lines.{pairsIn}
 use Rattle.listing.specs.Listing.{chartLines, largest, chartText}
 use Rattle.listing.proofs.Counts.{room-few, listed-few}
-
-pub pairs-again : (ps : List Pair) → pairsIn (bytes ps) ≡ ps
-unfolding pairsIn bytes
-pairs-again [] = refl
-pairs-again (p ∷ ps) = ap (λ (l : List Pair). p ∷ l) (pairs-again ps)
 
 -- what was answered and left is what the listing prints
 pub record Listed (list : List ℤ) (n : ℕ) (r : Swept) (after : List ℕ) : Type 0 where
@@ -46,13 +38,9 @@ module _ (list : List ℤ) (n : ℕ) (e : verdictOf list ≡ Accepted n) (lent :
   unfolding sweepOf sweptBy
   swept-is = rw goes
 
-  listed-are : (ps : List Pair) → pairsIn (take (2 * length ps) (over (bytes ps) lent)) ≡ ps
-  unfolding over
-  listed-are ps = rw (take-at (bytes ps) (drop (length (bytes ps)) lent) (2 * length ps) (bytes-length ps ∙ omega arith)) (pairs-again ps)
-
   pairs-are : let ps = (answer (finer n (pieceAt list)) largest) .listed in pairsIn (take (2 * length ps) (lentAfter list largest lent)) ≡ ps
   unfolding lentAfter listedOver
-  pairs-are = rw goes (listed-are ((answer (finer n (pieceAt list)) largest) .listed))
+  pairs-are = rw goes (read-back ((answer (finer n (pieceAt list)) largest) .listed) lent)
 
   pub full-sweep : (r : Swept) (after : List ℕ) → r ≡ sweepOf list largest (length lent) → after ≡ lentAfter list largest lent → Listed list n r after
   unfolding chartText

@@ -6,6 +6,7 @@ use Prim.Native.Nat.{ℕ}
 use lib.IntN.{ℤ}
 use Rattle.fractions.specs.declared.Point.{Point}
 use Rattle.charts.specs.Piece.{pieceAt}
+unfoldable pub use Rattle.charts.specs.PairList.{pairsIn}
 use Rattle.place.specs.declared.Where.{Where}
 use Rattle.place.specs.Place.{whereOf}
 use Rattle.sweep.specs.Lists.{Pair}
@@ -45,12 +46,6 @@ placeText (Where.Along p q) = ascii " along" ++ endText p ++ endText q
 -- "the lesser and greater number": of a pair a, b whose pieces meet there
 unfoldable pub pairLine : Where → ℕ → ℕ → List ℕ
 pairLine w a b = ascii "pair " ++ decimal a ++ ascii " " ++ decimal b ++ placeText w ++ ascii "\n"
-
--- the pairs that bytes stand for, "two a pair"
-unfoldable pub pairsIn : List ℕ → List Pair
-pairsIn [] = []
-pairsIn (a ∷ []) = []
-pairsIn (a ∷ b ∷ bytes) = (a, b) ∷ pairsIn bytes
 
 -- "per pair in sweep order": the pairs of a list's pieces, in the order given
 unfoldable pub pairLines : List ℤ → List Pair → List ℕ

@@ -31,7 +31,7 @@ use Rattle.promises.specs.Chart.{Accepts, NoneUpright}
 use Rattle.promises.specs.Sweep.{Ported, listedIn}
 use Rattle.promises.specs.AllPairs.{Allowed}
 use Rattle.promises.proofs.Geometry.{none-upright}
-use Rattle.promises.proofs.Reading.{read-back}
+use Rattle.naive.proofs.Reading.{read-back}
 use Rattle.promises.proofs.AllPairs.{its-list}
 use Rattle.full_promises.specs.Sweep.{Full}
 use Rattle.full_promises.proofs.Full.{done}

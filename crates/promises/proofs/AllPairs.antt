@@ -20,7 +20,7 @@ use Rattle.sweep.specs.Lists.{Pair}
 use Rattle.promises.specs.Chart.{Accepts}
 use Rattle.promises.specs.AllPairs.{Allowed, listedIn, AllPairsPromises}
 use Rattle.promises.proofs.Refusing.{refusing, listing-decided}
-use Rattle.promises.proofs.Reading.{read-back}
+use Rattle.naive.proofs.Reading.{read-back}
 
 -- the contract of `all_pairs` itself allows no other outcome
 pub allows-these : (κ : _) (a : _) (r : _) (s : _) → all-pairs.Post κ a r s → Allowed (now (a .0)) (now (a .1 .0)) r (now (s .1 .0))

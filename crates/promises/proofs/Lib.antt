@@ -1,8 +1,7 @@
 -- `Ported`, `AllPairs`: the promises of the calls, kept. `Sweeping`: those of any sweep, from what is known of its run; a
 -- second sweep supplies a `Call`. `Geometry`: the words of specs/Chart and those of the sweep's own chart. `Refusing`: refusals
--- of any call. `Reading`: pairs read from bytes. `Budgets`: how many steps a run does.
+-- of any call. `Budgets`: how many steps a run does.
 pub mod Refusing
-pub mod Reading
 pub mod AllPairs
 pub mod Geometry
 pub mod Budgets

@@ -44,7 +44,7 @@ use Rattle.promises.specs.Chart.{Accepts, Before}
 use Rattle.promises.specs.Sweep as due
 use Rattle.promises.specs.Sweep.{Outcome, listedIn, Reached, SweepPromises}
 use Rattle.promises.proofs.Refusing.{refusing, listing-decided}
-use Rattle.promises.proofs.Reading.{read-back}
+use Rattle.naive.proofs.Reading.{read-back}
 use Rattle.promises.proofs.AllPairs as pairs
 use Rattle.promises.proofs.Geometry.{less-is, least-alike, chart, meets-exactly, first-least, meeting-exactly, turned-exactly, meeting-once, meeting-many, occurs-exactly}
 

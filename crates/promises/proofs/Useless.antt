@@ -5,11 +5,11 @@ use mathlib.Core.Logic.{_⊎_, ⊎-elim}
 use mathlib.Core.Bool.{true, cond}
 use mathlib.Core.List.{List, [], _∷_}
 use mathlib.Core.List.{List·Memᴰ as In, List·Memᴰ·head as here, List·Memᴰ·tail as there}
-use Prim.Native.Nat.{ℕ, zero, suc, _≤_, _<_, min}
+use Prim.Native.Nat.{ℕ, zero, suc, _*_, _≤_, _<_, min}
 use native.Mathlib.Omega.{arith}
 use lib.Dec.{eqb}
 use lib.IntN.{ℤ, pos}
-use lib.ListN.{length}
+use lib.ListN.{length, take}
 use Rattle.fractions.specs.Order.{order}
 use Rattle.fractions.specs.Fraction.{ratioOrder}
 use Rattle.fractions.specs.Point.{pointOrder, wholeOf}
@@ -25,6 +25,7 @@ use Rattle.charts.specs.Chart.{numberAt, faultAt, pieces, verdictOf}
 use Rattle.charts.specs.Piece.{kindOf, coordinateOf, pieceAt, isUpright, noUpright}
 use Rattle.charts.specs.Answer.{answerOf, room, listingOf}
 use Rattle.charts.specs.Demand.{ListingDue}
+use Rattle.charts.specs.PairList.{pairsIn}
 use Rattle.charts.specs.declared.Answer.{Answer}
 use Rattle.charts.specs.declared.Verdict.{Verdict}
 use Rattle.charts.specs.declared.Verdict.the-variants.{Accepted, Refused}
@@ -33,7 +34,7 @@ use Rattle.charts.proofs.Listing.{listing-refuses-exactly, listing-goes}
 use Rattle.sweep.specs.Lists.{Pair}
 use Rattle.bentley_ottmann.specs.declared.Swept.{Swept}
 use Rattle.bentley_ottmann.specs.Swept.{refusedWith, sweepOf, lentAfter}
-use Rattle.promises.specs.Chart.{Accepts, pairsIn, NoneUpright, AllPoints, EndOrCrossing, a-min, a-max, a-crossing}
+use Rattle.promises.specs.Chart.{Accepts, NoneUpright, AllPoints, EndOrCrossing, a-min, a-max, a-crossing}
 use Rattle.promises.specs.AllPairs as pairs
 use Rattle.promises.specs.Sweep.{Ported, Visits, Refusals, CountsSteps, VisitsInOrder}
 use Rattle.promises.specs.Useless.{RefusesAll, ListsNothing, IdlesAfterOne, inventing, InventsSteps, ShutOut}
@@ -81,14 +82,14 @@ refuses-all P =
     let z : _≡_ {A = ℕ} 0 1 = cc (e, none-goes) in
     omega arith
 
-nothing-in : {q : Pair} (l : List ℕ) → In q (pairsIn 0 l) → ⊥
+nothing-in : {q : Pair} (l : List ℕ) → In q (pairsIn (take (2 * 0) l)) → ⊥
 unfolding pairsIn
 nothing-in l m = elim m [ ]
 
 lists-nothing : ¬ pairs.ListsExactly ListsNothing
 lists-nothing P =
     let m = P two 2 (0 ∷ 0 ∷ []) _ (0 ∷ 0 ∷ []) (listing-refuses-exactly two 2 (Accepted 2) .0 two-goes) (refl, refl) 1 0 .1 (omega arith, omega arith, two-meet) in
-    nothing-in (0 ∷ 0 ∷ []) (subst (λ (k : ℕ). In (1, 0) (pairsIn k (0 ∷ 0 ∷ []))) (ap (λ (v : Verdict). (answerOf (λ n. 0) v) .count) two-goes) m)
+    nothing-in (0 ∷ 0 ∷ []) (subst (λ (k : ℕ). In (1, 0) (pairsIn (take (2 * k) (0 ∷ 0 ∷ [])))) (ap (λ (v : Verdict). (answerOf (λ n. 0) v) .count) two-goes) m)
 
 -- the two ends of the one piece are two points
 one-flat : noUpright one 1 ≡ true

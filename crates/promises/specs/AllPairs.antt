@@ -3,20 +3,21 @@ use mathlib.Core.Path.{_≡_}
 use mathlib.Core.Logic.{_≢_, _↔_}
 use mathlib.Core.List.{List}
 use mathlib.Core.List.{List·Memᴰ as In}
-use Prim.Native.Nat.{ℕ, _<_}
+use Prim.Native.Nat.{ℕ, _*_, _<_}
 use lib.IntN.{ℤ}
-use lib.ListN.{length}
+use lib.ListN.{length, take}
 use Rattle.line_segment.specs.Demand.{Meet}
 use Rattle.charts.specs.declared.Answer.{Answer}
 use Rattle.charts.specs.declared.Verdict.the-variants.{Refused}
 use Rattle.charts.specs.Answer.{refusedWith}
 use Rattle.charts.specs.Demand.{ListingDue}
+use Rattle.charts.specs.PairList.{pairsIn}
 use Rattle.charts.specs.Piece.{pieceAt}
 use Rattle.naive.specs.Pairs.{bytes, over}
 use Rattle.naive.specs.AllPairs.{allPairsOf, lentAfter}
 use Rattle.sweep.specs.Lists.{Pair, Pairwise}
 use Rattle.promises.specs.Refusals.{RefusalPromises}
-use Rattle.promises.specs.Chart.{Accepts, pairsIn, NumbersBefore}
+use Rattle.promises.specs.Chart.{Accepts, NumbersBefore}
 
 -- which answers and which bytes afterwards a call allows
 abbrev pub Outcome : Type 1
@@ -27,8 +28,9 @@ pub record Allowed (list : List ℤ) (lent : List ℕ) (r : Answer) (after : Lis
   pub returned : r ≡ allPairsOf list (length lent)
   pub left : after ≡ lentAfter list lent
 
+-- "two [bytes] a pair"
 abbrev pub listedIn : Answer → List ℕ → List Pair
-listedIn r after = pairsIn (r .count) after
+listedIn r after = pairsIn (take (2 * r .count) after)
 
 module _ (Allowed : Outcome) where
   -- every accepted list, all lent bytes

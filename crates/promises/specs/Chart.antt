@@ -1,9 +1,9 @@
 -- What there is on a chart, from geometry alone: upright pieces, pairs that meet, ends, crossings, first common points.
 use mathlib.Core.Path.{_≡_}
 use mathlib.Core.Logic.{_⊎_, _↔_}
-use mathlib.Core.List.{List, [], _∷_}
+use mathlib.Core.List.{List}
 use mathlib.Core.List.{List·Memᴰ as In}
-use Prim.Native.Nat.{ℕ, zero, suc, _<_}
+use Prim.Native.Nat.{ℕ, _<_}
 use lib.IntN.{ℤ}
 use lib.ListN.{length}
 use Rattle.fractions.specs.Point.{Lowest, pointOrder}
@@ -22,13 +22,6 @@ use Rattle.sweep_geometry.specs.Demand.{LeastCommon}
 -- a chart of n pieces whose pairs go into these bytes, accepted as the table of refusals says
 abbrev pub Accepts : List ℤ → List ℕ → ℕ → Type 0
 Accepts list lent n = ListingDue list (length lent) (Accepted n)
-
--- "two [bytes] a pair": the first k pairs
-unfoldable pub pairsIn : ℕ → List ℕ → List Pair
-pairsIn zero l = []
-pairsIn (suc k) [] = []
-pairsIn (suc k) (i ∷ []) = []
-pairsIn (suc k) (i ∷ j ∷ l) = (i, j) ∷ pairsIn k l
 
 -- the one common point, in lowest terms, of two pieces that do not lie on one line
 pub record CrossAt (a b : LineSegment) (p : Point) : Type 0 where

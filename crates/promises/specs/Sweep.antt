@@ -15,6 +15,7 @@ use Rattle.fractions.specs.declared.Point.{Point}
 use Rattle.charts.specs.declared.Answer.{Answer}
 use Rattle.charts.specs.declared.Verdict.the-variants.{Refused}
 use Rattle.charts.specs.Demand.{ListingDue}
+use Rattle.charts.specs.PairList.{pairsIn}
 use Rattle.naive.specs.Pairs.{bytes, over}
 use Rattle.sweep.specs.Lists.{Pair, last-of, Pairwise}
 use Rattle.ported_run.specs.declared.Last.{Last}
@@ -23,7 +24,7 @@ use Rattle.bentley_ottmann.specs.declared.Swept.{Swept}
 use Rattle.ported_run.specs.Last.{asLast}
 use Rattle.bentley_ottmann.specs.Swept.{sweepOf, lentAfter, refusedWith}
 use Rattle.promises.specs.Refusals.{RefusalPromises}
-use Rattle.promises.specs.Chart.{Accepts, pairsIn, FirstOf, Before, Meeting, SomePoints, AllPoints}
+use Rattle.promises.specs.Chart.{Accepts, FirstOf, Before, Meeting, SomePoints, AllPoints}
 use Rattle.promises.specs.AllPairs.{Allowed as AllPairs, listedIn as allIn}
 
 -- which results and which bytes afterwards a call allows, by its list, its budget and the lent bytes
@@ -35,8 +36,9 @@ pub record Ported (list : List ℤ) (budget : ℕ) (lent : List ℕ) (r : Swept)
   pub returned : r ≡ sweepOf list budget (length lent)
   pub left : after ≡ lentAfter list budget lent
 
+-- "two [bytes] a pair"
 abbrev pub listedIn : Swept → List ℕ → List Pair
-listedIn r after = pairsIn (r .pairs) after
+listedIn r after = pairsIn (take (2 * r .pairs) after)
 
 -- "at or before the last point visited, none at zero steps"
 abbrev pub Reached : Last → Point → Type 0
