@@ -19,12 +19,12 @@ use Rattle.line_segment.specs.Piece.{pointOf}
 use Rattle.sweep.specs.Lists.{Pairwise, keep, upto}
 use Rattle.sweep.specs.Chart.{Chart, same}
 use Rattle.sweep.specs.Queue.{ends, beyond}
-use Rattle.sweep.specs.Step.{starts}
+use Rattle.sweep.specs.Step.{starts, finishes}
 use Rattle.sweep.specs.Geometry.{Occurs}
 use Rattle.sweep.specs.Ported.{isLess}
 use Rattle.sweep.proofs.Tests.{ask, clash}
 use Rattle.sweep.proofs.Lists.{keep-in, keep-out, pairwise-map, keep-none, pairwise-keep, pairwise-take, pairwise-right}
-use Rattle.sweep.proofs.Occurring.{min-in, max-in, ends-out, end-occurs, min-occurs}
+use Rattle.sweep.proofs.Occurring.{min-in, max-in, ends-out, end-occurs, min-occurs, max-occurs}
 use Rattle.sweep.proofs.Ranked.{Keyed, less-true, less-false, less-yes, same-yes, same-true}
 use Rattle.sweep.proofs.Between.{bound}
 use Rattle.sweep.proofs.Soonest.{beyond-yes}
@@ -241,6 +241,17 @@ module _ {n : ℕ} {table : List ℤ} {m : ℕ} {active lanes : List ℕ} {live 
           let d = same-true C K (C .min i) c (min-occurs C i b) c-occurs e in
           let u = Q.before-ends W Z h r N l (C .min i) (keep-in (beyond C ((run C m) .last)) (min-in C i b) (is-beyond (C .min i) (min-occurs C i b) (omega arith))) in
           omega arith
+
+      pub lane-goes-on : (i : ℕ) → i < n → finishes C c i ≡ false
+      unfolding finishes
+      lane-goes-on i b =
+          ⊎-elim
+          (λ (e : same C (C .max i) c ≡ true).
+          let d = same-true C K (C .max i) c (max-occurs C i b) c-occurs e in
+          let u = Q.before-ends W Z h r N l (C .max i) (keep-in (beyond C ((run C m) .last)) (max-in C i b) (is-beyond (C .max i) (max-occurs C i b) (omega arith))) in
+          absurd (omega arith))
+          (λ (e : same C (C .max i) c ≡ false). e)
+          (ask (same C (C .max i) c))
 
       pub lane-starting : Starting n table c []
       unfolding starters keep

@@ -170,7 +170,8 @@ module _ (n : ℕ) (table : List ℤ) (lent : List ℕ) (K : Given n table lent)
           }
 
     pub carries : CarriesOn n table lent s p rough spot active lanes live first last ends bytes end
-    carries = record { steppable = fit; carried = after }
+    unfolding fit
+    carries = record { steppable = fit; there = refl; carried = after }
 
   -- ---- at every step of a run
   once-listed : (G : Geometry C) (budget : ℕ) (p : Point) → next C (run C budget) ≡ some p → Pairwise (λ q r. q ≢ r) (reported C (run C budget) p)

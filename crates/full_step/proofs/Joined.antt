@@ -42,7 +42,7 @@ module _ (n : ℕ) (table : List ℤ) where
   abbrev S : Sides C
   S = sidesOf n (pieceIn table)
 
-  goes-on-is : (q : Point) (i : ℕ) → goesOnIn table q i ≡ not (finishes C q i)
+  pub goes-on-is : (q : Point) (i : ℕ) → goesOnIn table q i ≡ not (finishes C q i)
   unfolding finishes same
   goes-on-is q i = ap not (neither-less (pointOf (pieceIn table i .max)) q)
 

@@ -25,6 +25,7 @@ module _ (n : ℕ) (table : List ℤ) where
   -- arrays that hold the state s are fit for the step at p, and after it they hold the next state
   pub record CarriesOn (lent : List ℕ) (s : State (chart n table)) (p rough : Point) (spot : Spot) (active lanes : List ℕ) (live lo hi : ℕ) (ends bytes : List ℕ) (end : ℕ) : Type 0 where
     pub steppable : Steppable table spot active lanes live lo hi ends bytes end
+    pub there : steppable .roomy .point ≡ p
     pub carried : (active′ lanes′ bytes′ : List ℕ) (r : At) → length active′ ≡ length active → length lanes′ ≡ length lanes
         → Stepped table p rough active lanes live lo hi ends bytes end active′ lanes′ bytes′ r (newBlock table p lo hi active ends)
         → Carried n table lent (step (chart n table) s p) active′ lanes′ (r .live) bytes′ (r .end)

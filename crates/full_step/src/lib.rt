@@ -107,10 +107,7 @@ pub fn cross(
     let to = list_pair(active[k], active[k + 1], bytes, end);
     exchange(active, lanes, live, k);
     examine_outer(table, active, lanes, live, k, 2, p);
-    At {
-        live,
-        end: to,
-    }
+    At { live, end: to }
 }
 
 // The whole step at p, whose spot it is.

@@ -1,9 +1,10 @@
 -- Which point a visit takes, and what the arrays are after it.
 use mathlib.Core.Path.{_≡_, sym, ap, subst, _∙_}
-use mathlib.Core.Logic.{_⊎_, inl, inr}
+use mathlib.Core.Logic.{_⊎_, inl, inr, ⊎-elim}
+use mathlib.Core.Bool.{true, not}
 use mathlib.Core.List.{List, []}
 use mathlib.Core.List.{List·Memᴰ as In}
-use mathlib.Core.Option.{Option, some}
+use mathlib.Core.Option.{Option, none, some}
 use Prim.Native.Nat.{ℕ, suc, _+_, _-_, _*_, _<_, _≤_, _^_}
 use native.Mathlib.Omega.{arith}
 use lib.IntN.{ℤ, pos, natAbs, _+ℤ_}
@@ -12,20 +13,26 @@ use Rattle.integers.specs.Size.{Small}
 use Rattle.fractions.specs.Point.{lowestOf}
 use Rattle.fractions.specs.declared.Point.{Point}
 use Rattle.charts.specs.Chart.{most}
+use Rattle.sweep.proofs.Between.{Lined, which, bound, bound-none}
 use Rattle.sweep_geometry.specs.Demand.{AllProper}
 use Rattle.ported_pieces.specs.Table.{pieceIn}
 use Rattle.full_steps.specs.Steps.{step, move, move-to, run}
+use Rattle.full_steps.specs.InPlace.{lane}
 use Rattle.full_steps.proofs.Placed.{getD-in}
 use Rattle.full_ends.specs.Ends.{endKey, minKey, maxKey, sortedKeys, Passed}
 use Rattle.full_ends.specs.Demand.{standing, Split}
 use Rattle.full_ends.proofs.Promises.{counted, sorted-in-order}
-use Rattle.full_lanes.specs.Lanes.{Keyed, meetingAt}
-use Rattle.full_lanes.proofs.Promises.{opened, beside-keyed}
+use Rattle.full_lanes.specs.Lanes.{Keyed, pairAt, meetingAt, steeper}
+use Rattle.full_lanes.proofs.Promises.{Open, opened, beside-keyed}
+use Rattle.full_lanes.proofs.Steeper.{open-steeper}
+use Rattle.full_active.specs.Ranks.{goesOnIn}
 use Rattle.full_next.specs.Next.{Next}
 use Rattle.full_step.specs.Carried.{chart, Carried}
+use Rattle.full_step.proofs.Joined.{goes-on-is}
 use Rattle.full_ahead.specs.Coming.{Known, Comes}
 use Rattle.full_ahead.proofs.Promises.{lane-comes, end-comes}
-use Rattle.full_ahead.proofs.Queue.{places-proper}
+use Rattle.full_ahead.proofs.Queue.{G, F, K, inv, is-active, is-piece, places-proper}
+use Rattle.full_ahead.proofs.Starts.{lane-goes-on}
 use Rattle.full_visit.specs.Visit.{Awaits, After, CrossAt, crossingAt}
 use Rattle.full_visit.proofs.Visiting.{crossing-lowest, end-lowest}
 
@@ -93,13 +100,37 @@ module _ {n : ℕ} {table : List ℤ} {lent : List ℕ} {m : ℕ} {ends : List �
       lane-comes-here : Comes n table m (crossingAt table active k) [] passed
       lane-comes-here = lane-comes n table m active lanes live passed k known (a .split) (omega (arith, count)) N′ l
 
+      open-here : Open n table ((run (chart n table) m) .last) (pairAt active k)
+      open-here = opened n table ((run (chart n table) m) .last) active lanes live (places-proper known) (a .carried .lanes-are) k l (N .lane l .0 .taken l)
+
+      goes-on : (i : ℕ) → i < n → goesOnIn table (crossingAt table active k) i ≡ true
+      goes-on i b = goes-on-is n table (crossingAt table active k) i ∙ ap not (lane-goes-on known (a .split) (omega (arith, count)) k N′ l i b)
+
+      -- the pieces are active after the last point, if there was one
+      falls : k + 1 < live → steeper table (getD active k 0) (getD active (k + 1) 0) ≡ true
+      falls two =
+          let L = inv known .lined in
+          ⊎-elim
+          (λ (e : (run (chart n table) m) .last ≡ none).
+          absurd (omega (arith, (L .active-out (getD active k 0) (is-active known k l)) .1, ap (bound (K known .key)) e ∙ bound-none (K known .key))))
+          (λ (e : (q : Point) × ((run (chart n table) m) .last ≡ some q)).
+          open-steeper n table (a .given .proper) (G known) active live (a .carried .lanes-are .places) (e .0)
+          (subst (λ (o : Option Point). Lined (chart n table) (F known) (take live active) o) (e .1)
+          (subst (λ (z : List ℕ). Lined (chart n table) (F known) z ((run (chart n table) m) .last)) (sym (a .carried .active-is)) L))
+          k two
+          (subst (λ (o : Option Point). lane (chart n table) o (pairAt active k) ≡ some (crossingAt table active k)) (e .1) (open-here .is)))
+          (which ((run (chart n table) m) .last))
+
       pub cross-at : CrossAt table active live k
       cross-at =
           let t = keyed .taken k l (N .lane l .0 .taken l) in
           record {
             two = t .two;
-            crosses = (opened n table ((run (chart n table) m) .last) active lanes live (places-proper known) (a .carried .lanes-are) k l (N .lane l .0 .taken l)) .crosses;
+            crosses = open-here .crosses;
             charted = t .charted;
+            first-on = goes-on (getD active k 0) (is-piece known k l);
+            second-on = goes-on (getD active (k + 1) 0) (is-piece known (k + 1) (t .two));
+            falls = falls (t .two);
           }
 
       pub lane-awaits : Awaits n table lent m (crossingAt table active k) [] active lanes live bytes end

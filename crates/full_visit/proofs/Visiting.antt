@@ -1,10 +1,10 @@
 -- A visit carries the arrays from one state of a run to the next.
 use mathlib.Core.Path.{_≡_, refl, sym, ap, subst, _∙_}
-use mathlib.Core.List.{List}
+use mathlib.Core.List.{List, []}
 use Prim.Native.Nat.{ℕ, suc, _+_, _-_}
 use native.Mathlib.Omega.{arith}
 use lib.IntN.{ℤ}
-use lib.ListN.{length}
+use lib.ListN.{length, getD}
 use Rattle.fractions.specs.Point.{pointOrder, lowestOf, wholeOf}
 use Rattle.fractions.specs.declared.Point.{Point}
 use Rattle.fractions.proofs.LowestTerms.{lowest-same, lowest-lowest, whole-lowest, one-record}
@@ -17,13 +17,16 @@ use Rattle.full_points.specs.declared.Spot.{Spot}
 use Rattle.full_points.specs.Spot.{Fair, Marks}
 use Rattle.full_points.proofs.Keys.{marks-lowest}
 use Rattle.full_active.specs.Parts.{belowIn, throughIn, Edge, Down, Up}
+use Rattle.full_active.specs.Ranks.{goesOnIn}
 use Rattle.full_lanes.specs.Lanes.{meetingAt, pairAt}
 use Rattle.full_step.specs.declared.At.{At}
 use Rattle.full_step.specs.Halves.{newBlock}
 use Rattle.full_step.specs.Whole.{Stepped}
+use Rattle.full_step.specs.Crossed.{Crossable, Crossed}
 use Rattle.full_step.specs.Carried.{chart, Carried, StandsAt}
 use Rattle.full_step.specs.Demand.{BlockAt, CarriesOn}
 use Rattle.full_step.proofs.Carrying.{step-carries}
+use Rattle.full_step.proofs.Crossing.{Turns, crossable, crossed-steps}
 use Rattle.full_ahead.specs.Coming.{Known}
 use Rattle.full_ahead.proofs.Block.{first, last, searched, widened-up, widened-down, crossing-block}
 use Rattle.full_visit.specs.Visit.{Awaits, CrossAt, crossingAt}
@@ -86,8 +89,41 @@ module _ {n : ℕ} {table : List ℤ} {lent : List ℕ} {m : ℕ} {p : Point} {k
 
   pub carries-to : {lo hi : ℕ} → CarriesOn n table lent (run (chart n table) m) p rough spot active lanes live lo hi keys bytes end
       → (active′ lanes′ bytes′ : List ℕ) (r : At) → length active′ ≡ length active → length lanes′ ≡ length lanes
-      → ((q : Point) → Marks spot q → Stepped table q rough active lanes live lo hi keys bytes end active′ lanes′ bytes′ r (newBlock table q lo hi active keys))
+      → Stepped table p rough active lanes live lo hi keys bytes end active′ lanes′ bytes′ r (newBlock table p lo hi active keys)
       → Carried n table lent (run (chart n table) (suc m)) active′ lanes′ (r .live) bytes′ (r .end)
   carries-to O active′ lanes′ bytes′ r e d T =
       subst (λ (s : State (chart n table)). Carried n table lent s active′ lanes′ (r .live) bytes′ (r .end)) (sym one-more)
-      (O .carried active′ lanes′ bytes′ r e d (T p (at .marks)))
+      (O .carried active′ lanes′ bytes′ r e d T)
+
+-- ---- the step where two cross and no other piece goes through
+module _ {n : ℕ} {table : List ℤ} {lent : List ℕ} {m : ℕ} {p : Point} {active lanes : List ℕ} {live : ℕ} {bytes : List ℕ} {end : ℕ}
+    (a : Awaits n table lent m p [] active lanes live bytes end) {rough : Point} {spot : Spot} (at : StandsAt p rough spot)
+    (k : ℕ) (X : CrossAt table active live k) (e : p ≡ crossingAt table active k) {lo hi : ℕ}
+    (D : (q : Point) → Marks spot q → Down (throughIn table q) active k lo) (U : (q : Point) → Marks spot q → Up (throughIn table q) active live (k + 2) hi)
+    (few : hi - lo ≡ 2) where
+  on-two : CarriesOn n table lent (run (chart n table) m) p rough spot active lanes live k (k + 2) [] bytes end
+  on-two =
+      let d = (D p (at .marks)) .within in
+      let u = (U p (at .marks)) .begun in
+      let f : lo ≡ k = omega arith in
+      let g : hi ≡ k + 2 = omega arith in
+      subst (λ (z : ℕ). CarriesOn n table lent (run (chart n table) m) p rough spot active lanes live k z [] bytes end) g
+      (subst (λ (z : ℕ). CarriesOn n table lent (run (chart n table) m) p rough spot active lanes live z hi [] bytes end) f (crossing-carries a at k X e D U))
+
+  turns : Turns table p active k
+  turns = record {
+    inside = omega (arith, X .two, a .carried .lanes-are .places);
+    crosses = X .crosses;
+    first-on = ap (λ (z : Point). goesOnIn table z (getD active k 0)) e ∙ X .first-on;
+    second-on = ap (λ (z : Point). goesOnIn table z (getD active (k + 1) 0)) e ∙ X .second-on;
+    falls = X .falls;
+  }
+
+  pub two-cross : Crossable table active lanes live k bytes end
+  two-cross = crossable table p active k turns (on-two .steppable) (on-two .there) (X .two)
+
+  pub two-carry : (active′ lanes′ bytes′ : List ℕ) (r : At) → length active′ ≡ length active → length lanes′ ≡ length lanes
+      → Crossed table rough active lanes live k bytes end active′ lanes′ bytes′ r → Carried n table lent (run (chart n table) (suc m)) active′ lanes′ (r .live) bytes′ (r .end)
+  two-carry active′ lanes′ bytes′ r f g T =
+      carries-to a at on-two active′ lanes′ bytes′ r f g
+      (crossed-steps table p active k turns (omega (arith, f, a .carried .lanes-are .places)) (X .two) T)

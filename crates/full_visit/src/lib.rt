@@ -1,6 +1,9 @@
 // A visit of the next point of the new mode: the next end or the least crossing ahead, its block found, and the step done.
+ghost use mathlib.Core.Path.{_≡_};
+ghost use mathlib.Core.List.{[]};
 ghost use Prim.Native.Nat.{_<_, _^_};
 ghost use Rattle.full_ends.specs.Demand.{standing};
+ghost use Rattle.full_lanes.specs.Lanes.{meetingAt};
 ghost use Rattle.full_visit.specs.Visit.{Ready, Stepping, CrossAt, crossingAt, Waiting, Visiting};
 use fractions::Point;
 use full_active::search;
@@ -38,6 +41,7 @@ fn at_crossing(
     end: usize,
 ) -> At
     requires { ⌜ Ready (now table) (crossingAt (now table) (now active) k) (now none) (now active) (now lanes) live (now bytes) end × CrossAt (now table) (now active) live k ⌝ }
+    requires { ⌜ (p ≡ meetingAt (now table) (now active) k) × (now none ≡ []) ⌝ }
     ensures { λ r. ⌜ Stepping (now (table .entry)) (crossingAt (now (table .entry)) (now (active .entry)) k) (now (none .entry)) (now (active .entry)) (now (lanes .entry)) live (now (bytes .entry)) end (now (active .exit)) (now (lanes .exit)) (now (bytes .exit)) r ⌝ }
 {
     let spot = spot_of(p);
@@ -113,17 +117,7 @@ pub fn visit(
     let k = next_lane(table, active, lanes, live, key);
     if k < live {
         let point = meeting_at(table, active, k);
-        let at = at_crossing(
-            table,
-            point,
-            k,
-            &ends[..0],
-            active,
-            lanes,
-            live,
-            bytes,
-            end,
-        );
+        let at = at_crossing(table, point, k, &ends[..0], active, lanes, live, bytes, end);
         return Visited {
             passed,
             live: at.live,
