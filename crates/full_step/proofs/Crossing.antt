@@ -13,6 +13,8 @@ use lib.IntN.{ℤ}
 use lib.ListN.{length, getD, take, drop}
 use lib.Seq.{slice, slice-cons, slice-empty}
 use Rattle.fractions.specs.declared.Point.{Point}
+use Rattle.line_segment.specs.declared.Meeting.the-variants.{Crossing}
+use Rattle.line_segment.specs.Segment.{intersectOf}
 use Rattle.sweep.specs.Lists.{Pair, keep, pairs, lesser-first}
 use Rattle.sweep.specs.Ported.{isLess, slopeOrder}
 use Rattle.sweep.proofs.Lists.{keep-yes}
@@ -27,6 +29,7 @@ use Rattle.full_points.specs.declared.Spot.{Spot}
 use Rattle.full_lanes.specs.Lanes.{pairAt, steeper}
 use Rattle.full_active.specs.Ranks.{risesIn, goesOnIn, backwards, starters}
 use Rattle.full_list.specs.Listed.{freshIn, Listed}
+use Rattle.full_list.proofs.Freshness.{by-crossing}
 use Rattle.full_step.specs.declared.At.{At}
 use Rattle.full_step.specs.Halves.{atPoint, newBlock}
 use Rattle.full_step.specs.Whole.{Steppable, Stepped}
@@ -42,7 +45,7 @@ insert-two before x y = go (before x y)
     go false = refl
 
 -- the steeper does not rise before the other
-pub steep-last : (table : List ℤ) (i j : ℕ) → steeper table i j ≡ true → risesIn table i j ≡ false
+steep-last : (table : List ℤ) (i j : ℕ) → steeper table i j ≡ true → risesIn table i j ≡ false
 unfolding throughOrder
 steep-last table i j e = rw (is-greater (slopeOrder (pieceIn table i) (pieceIn table j)) e)
 
@@ -65,10 +68,10 @@ by-number i j =
 -- they cross, at q both go on, and the one in front is the steeper
 pub record Turns (table : List ℤ) (q : Point) (active : List ℕ) (k : ℕ) : Type 0 where
   pub inside : k + 1 < length active
-  pub new : freshIn table q (pairAt active k) ≡ true
+  pub crosses : intersectOf (pieceIn table ((pairAt active k) .0)) (pieceIn table ((pairAt active k) .1)) ≡ Crossing
   pub first-on : goesOnIn table q (getD active k 0) ≡ true
   pub second-on : goesOnIn table q (getD active (k + 1) 0) ≡ true
-  pub falls : risesIn table (getD active k 0) (getD active (k + 1) 0) ≡ false
+  pub falls : steeper table (getD active k 0) (getD active (k + 1) 0) ≡ true
 
 module _ (table : List ℤ) (q : Point) (active : List ℕ) (k : ℕ) (W : Turns table q active k) where
   abbrev i : ℕ
@@ -93,7 +96,7 @@ module _ (table : List ℤ) (q : Point) (active : List ℕ) (k : ℕ) (W : Turns
       ap (λ (l : List ℕ). keep (freshIn table q) (pairs (insert-all ltb [] (l ++ [])))) two
       ∙ ap (λ (l : List ℕ). keep (freshIn table q) (pairs l)) (insert-two ltb j i)
       ∙ ap (keep (freshIn table q)) (by-number i j)
-      ∙ keep-yes (freshIn table q) (lesser-first i j) [] (W .new)
+      ∙ keep-yes (freshIn table q) (lesser-first i j) [] (sym (by-crossing table q ((pairAt active k) .0) ((pairAt active k) .1) (W .crosses)))
 
   block-is : newBlock table q k (k + 2) active [] ≡ turnedTwo active k
   unfolding starters keep backwards turnedTwo
@@ -102,7 +105,7 @@ module _ (table : List ℤ) (q : Point) (active : List ℕ) (k : ℕ) (W : Turns
       ∙ ap (λ (l : List ℕ). insert-all (risesIn table) [] (l ++ []))
       (keep-yes (goesOnIn table q) j (i ∷ []) (W .second-on) ∙ ap (λ (l : List ℕ). j ∷ l) (keep-yes (goesOnIn table q) i [] (W .first-on)))
       ∙ insert-two (risesIn table) i j
-      ∙ rw (W .falls) refl
+      ∙ rw (steep-last table i j (W .falls)) refl
 
   -- the step can be done so
   pub crossable : {spot : Spot} {lanes : List ℕ} {live : ℕ} {bytes : List ℕ} {end : ℕ} (S : Steppable table spot active lanes live k (k + 2) [] bytes end) → S .roomy .point ≡ q

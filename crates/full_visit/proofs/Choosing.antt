@@ -104,7 +104,7 @@ module _ {n : ℕ} {table : List ℤ} {lent : List ℕ} {m : ℕ} {ends : List �
       open-here = opened n table ((run (chart n table) m) .last) active lanes live (places-proper known) (a .carried .lanes-are) k l (N .lane l .0 .taken l)
 
       goes-on : (i : ℕ) → i < n → goesOnIn table (crossingAt table active k) i ≡ true
-      goes-on i h = goes-on-is n table (crossingAt table active k) i ∙ ap not (lane-goes-on known (a .split) (omega (arith, count)) k N′ l i h)
+      goes-on i b = goes-on-is n table (crossingAt table active k) i ∙ ap not (lane-goes-on known (a .split) (omega (arith, count)) k N′ l i b)
 
       -- the pieces are active after the last point, if there was one
       falls : k + 1 < live → steeper table (getD active k 0) (getD active (k + 1) 0) ≡ true

@@ -19,7 +19,6 @@ use Rattle.full_points.proofs.Keys.{marks-lowest}
 use Rattle.full_active.specs.Parts.{belowIn, throughIn, Edge, Down, Up}
 use Rattle.full_active.specs.Ranks.{goesOnIn}
 use Rattle.full_lanes.specs.Lanes.{meetingAt, pairAt}
-use Rattle.full_list.proofs.Freshness.{by-crossing}
 use Rattle.full_step.specs.declared.At.{At}
 use Rattle.full_step.specs.Halves.{newBlock}
 use Rattle.full_step.specs.Whole.{Stepped}
@@ -27,7 +26,7 @@ use Rattle.full_step.specs.Crossed.{Crossable, Crossed}
 use Rattle.full_step.specs.Carried.{chart, Carried, StandsAt}
 use Rattle.full_step.specs.Demand.{BlockAt, CarriesOn}
 use Rattle.full_step.proofs.Carrying.{step-carries}
-use Rattle.full_step.proofs.Crossing.{Turns, steep-last, crossable, crossed-steps}
+use Rattle.full_step.proofs.Crossing.{Turns, crossable, crossed-steps}
 use Rattle.full_ahead.specs.Coming.{Known}
 use Rattle.full_ahead.proofs.Block.{first, last, searched, widened-up, widened-down, crossing-block}
 use Rattle.full_visit.specs.Visit.{Awaits, CrossAt, crossingAt}
@@ -114,10 +113,10 @@ module _ {n : ℕ} {table : List ℤ} {lent : List ℕ} {m : ℕ} {p : Point} {a
   turns : Turns table p active k
   turns = record {
     inside = omega (arith, X .two, a .carried .lanes-are .places);
-    new = sym (by-crossing table p ((pairAt active k) .0) ((pairAt active k) .1) (X .crosses));
+    crosses = X .crosses;
     first-on = ap (λ (z : Point). goesOnIn table z (getD active k 0)) e ∙ X .first-on;
     second-on = ap (λ (z : Point). goesOnIn table z (getD active (k + 1) 0)) e ∙ X .second-on;
-    falls = steep-last table (getD active k 0) (getD active (k + 1) 0) (X .falls);
+    falls = X .falls;
   }
 
   pub two-cross : Crossable table active lanes live k bytes end

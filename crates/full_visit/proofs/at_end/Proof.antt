@@ -51,7 +51,7 @@ returns c n lent m a =
     let e = ap₂ wholeOf (toZ-ofZ w16 _ (search needs) ∙ c .before .before .before .before .before .before .before .before .before .before .before .before .before .before .before .before .before .end-x .ensures) (toZ-ofZ w16 _ (search needs) ∙ c .before .before .before .before .before .before .before .before .before .before .before .before .before .before .before .before .end-y .ensures) in
     let at = end-stands e (c .before .before .before .before .before .before .before .before .before .before .before .before .before .before .before .spot-at .ensures) (c .before .before .before .before .before .before .before .before .before .before .whole .ensures ∙ e) in
     carries-to a at (end-carries a at (c .before .before .before .before .before .before .before .before .before .before .before .before .before .search .ensures) (c .before .before .before .before .before .before .before .before .before .before .before .widen-up .ensures)) _ _ _ _
-    (c .before .before .before .before .before .active .given) (c .before .before .before .lanes .given) (c .before .before .before .before .before .before .step .ensures)
+    (c .before .before .before .before .before .active .given) (c .before .before .before .lanes .given) (c .before .before .before .before .before .before .step .ensures _ (at .marks))
 
 pub at-end-spec : {M : Type 1} → statement M
 at-end-spec =

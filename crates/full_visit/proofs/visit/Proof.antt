@@ -1,5 +1,5 @@
 -- `full_visit::visit` meets its contract: the lane or the end that comes next, and the step there.
-use mathlib.Core.Path.{ap₂, _∙_}
+use mathlib.Core.Path.{refl, ap₂, _∙_}
 use mir.Syntax.{w16}
 use mir.ValLaws.{toZ-ofZ}
 use native.Mathlib.Omega.{arith}
@@ -33,7 +33,7 @@ at-crossing-requires c κs =
     let w = c .before .before .before .before .before .before .before .before .before .before .before .before .before .before .before .pre in
     let N = c .before .before .before .before .before .before .before .next-lane .ensures in
     let l = c .before .before .before .before .before .before .if1 .taken in
-    ((w .1 .0, w .1 .1, w .1 .2, lane-awaits (w .1 .3) (w .0) N l), cross-at (w .1 .3) (w .0) N l)
+    (((w .1 .0, w .1 .1, w .1 .2, lane-awaits (w .1 .3) (w .0) N l), cross-at (w .1 .3) (w .0) N l), (c .before .before .before .before .meeting-at .ensures, refl))
 
 same-length : tie.Need-same-length
 same-length c = search needs
