@@ -67,7 +67,7 @@ fn groups_at(file: &[u8], at: usize) -> Groups
     Groups::Fault(2)
 }
 
-// The count with which a file begins, and the place after it.
+// The count with which a file begins, and the place after it. Neither a padded count is taken, nor one above MOST.
 fn count_at(file: &[u8]) -> Groups
     ensures { λ r. ⌜ r ≡ countAt (now (file .entry)) ⌝ }
 {
