@@ -46,7 +46,8 @@ pub fn check(chart: &Chart) -> Result<(), String> {
   compare_meetings(&case)?;
   sweep::compare(&case)?;
   plain::compare(&case)?;
-  compare_rest(&case)
+  removal::compare(&case)?;
+  compare_lists(&case)
 }
 
 fn compare_meetings(case: &Case) -> Result<(), String> {
@@ -60,21 +61,21 @@ fn compare_meetings(case: &Case) -> Result<(), String> {
   supplied::compare(case)
 }
 
-fn compare_rest(case: &Case) -> Result<(), String> {
-  removal::compare(case)?;
+fn compare_lists(case: &Case) -> Result<(), String> {
   batch::compare(case)?;
   refusals::compare(case)?;
   file::compare(case)?;
   writing::compare(case)
 }
 
-/// Compares every answer about a chart but the steps of the Rust's sweep, which would take minutes.
+/// Compares every answer about a chart but the steps of the Rust's sweep, which would take minutes, and but those without
+/// a piece.
 pub fn check_fullest(chart: &Chart) -> Result<(), String> {
   let case = Case::new(chart);
   compare_meetings(&case)?;
   let due = full::compare_alone(&case)?;
   plain::compare_with(&case, &due.pairs())?;
-  compare_rest(&case)
+  compare_lists(&case)
 }
 
 /// Compares how the pieces of a chart meet, and nothing else.
