@@ -18,8 +18,11 @@ pub const BATCHES: usize = 40;
 const POINTS: usize = 1_000;
 
 /// Prints the tables; `programs` is the folder with the programs of plain.cpp, once.c and, where it could be had,
-/// cgal.cpp.
+/// cgal.cpp. Where the library is not compiled for the processor, only the last table, of its text.
 pub fn print(programs: &Path) -> Result<()> {
+  if !cfg!(target_arch = "x86_64") {
+    return bench_full::print(programs);
+  }
   println!("| points | library, ns | Rust, ns | Rust / library |");
   println!("|---|---|---|---|");
   order_row(

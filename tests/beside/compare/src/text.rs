@@ -32,7 +32,20 @@ pub fn run(chart: &Chart) -> Result<Run, String> {
 
 /// The new mode's call.
 pub fn full_sweep(list: &[i32], budget: u32, bytes: &mut [u8]) -> Swept {
-  let told = full_sweep::sweep(list, budget, bytes);
+  as_swept(full_sweep::sweep(list, budget, bytes))
+}
+
+/// The ported mode's.
+pub fn sweep(list: &[i32], budget: u32, bytes: &mut [u8]) -> Swept {
+  as_swept(bentley_ottmann::sweep(list, budget, bytes))
+}
+
+/// The count of pairs listed in plain order.
+pub fn plain_order(list: &[i32], bytes: &mut [u8]) -> usize {
+  order_pairs::plain_order(list, bytes).count
+}
+
+fn as_swept(told: bentley_ottmann::Swept) -> Swept {
   Swept {
     number: told.number,
     place: told.place,
