@@ -58,7 +58,10 @@ static void answers_of_read(void) {
     } wrongs[] = {
         {{1, 3, 0}, 3, MIRTALUGHE_FILE_ENDS, 3},
         {{1, 3, 0, 0x80, 0}, 5, MIRTALUGHE_GROUPS, 3},
-        {{MIRTALUGHE_MOST_PIECES + 1}, 1, MIRTALUGHE_COUNT, 0},
+        {{0x81}, 1, MIRTALUGHE_FILE_ENDS, 0},
+        {{0x81, 0}, 2, MIRTALUGHE_GROUPS, 0},
+        {{(MIRTALUGHE_MOST_PIECES + 1) % 128 + 128, (MIRTALUGHE_MOST_PIECES + 1) / 128}, 2, MIRTALUGHE_COUNT, 0},
+        {{0x81, 0x80, 1}, 3, MIRTALUGHE_COUNT, 0},
         {{1, 4}, 2, MIRTALUGHE_KIND, 1},
         {{1, 3, 0xFF, 0xFF, 3}, 5, MIRTALUGHE_COORDINATE, 2}, /* -32,768 */
         {{1, 3, 2, 4, 2, 4}, 6, MIRTALUGHE_NO_LENGTH, 1},
@@ -414,10 +417,11 @@ static void numbers(void) {
 }
 
 /* So many pieces of which every two cross, each at a point of its own. */
+/* Every two cross, all at points of their own; every coordinate takes three groups. */
 static size_t every_two_cross(int32_t pieces) {
     int32_t *at = list;
     for (int32_t i = 0; i < pieces; i++) {
-        int32_t piece[] = {3, -MIRTALUGHE_LIMIT, 1000 * i - 32000, MIRTALUGHE_LIMIT, 32000 - 15 * i * i};
+        int32_t piece[] = {3, -MIRTALUGHE_LIMIT, 8200 + 120 * i, MIRTALUGHE_LIMIT, 32700 - i * (i + 1) / 2};
         memcpy(at, piece, sizeof piece);
         at += MIRTALUGHE_PIECE_NUMBERS;
     }
@@ -564,6 +568,9 @@ static void answers_of_open(void) {
 }
 
 static void sizes(void) {
+    CHECK(MIRTALUGHE_MOST_PIECES == 200 && MIRTALUGHE_LIST_ROOM == 1000 && MIRTALUGHE_LONGEST_FILE == 2602);
+    CHECK(MIRTALUGHE_PAIRS_ROOM(MIRTALUGHE_MOST_PIECES) == 39800 && MIRTALUGHE_MOST_PAIRS == 19900);
+    CHECK(MIRTALUGHE_MOST_STEPS == 20300);
     static const uint8_t no_pieces[] = {0};
     CHECK(mirtalughe_read(no_pieces, 1, list, MIRTALUGHE_LIST_ROOM).number == MIRTALUGHE_DONE);
     CHECK(mirtalughe_read(no_pieces, 1, list, MIRTALUGHE_LIST_ROOM - 1).number == MIRTALUGHE_ROOM);
@@ -572,14 +579,19 @@ static void sizes(void) {
     CHECK(most == MIRTALUGHE_LIST_ROOM);
     CHECK(mirtalughe_all_pairs(list, most, pairs, room).count == MIRTALUGHE_MOST_PAIRS);
     CHECK(mirtalughe_plain_order(list, most, pairs, room).count == MIRTALUGHE_MOST_PAIRS);
-    CHECK(mirtalughe_sweep(list, most, UINT32_MAX, pairs, room).pairs == MIRTALUGHE_MOST_PAIRS);
-    CHECK(mirtalughe_sweep(list, most, UINT32_MAX, pairs, room).steps == MIRTALUGHE_MOST_STEPS);
+    mirtalughe_swept swept = mirtalughe_sweep(list, most, UINT32_MAX, pairs, room);
+    CHECK(swept.pairs == MIRTALUGHE_MOST_PAIRS && swept.steps == MIRTALUGHE_MOST_STEPS && swept.ended);
+    CHECK(swept.examined <= (uint64_t)2 * (MIRTALUGHE_MOST_PIECES - 1) * MIRTALUGHE_MOST_STEPS);
     CHECK(!mirtalughe_sweep(list, most, MIRTALUGHE_MOST_STEPS - 1, pairs, room).ended);
-    CHECK(mirtalughe_full_sweep(list, most, UINT32_MAX, pairs, room).pairs == MIRTALUGHE_MOST_PAIRS);
-    CHECK(mirtalughe_full_sweep(list, most, MIRTALUGHE_MOST_STEPS, pairs, room).steps == MIRTALUGHE_MOST_STEPS);
+    swept = mirtalughe_full_sweep(list, most, MIRTALUGHE_MOST_STEPS, pairs, room);
+    CHECK(swept.pairs == MIRTALUGHE_MOST_PAIRS && swept.steps == MIRTALUGHE_MOST_STEPS && swept.ended);
     CHECK(!mirtalughe_full_sweep(list, most, MIRTALUGHE_MOST_STEPS - 1, pairs, room).ended);
     CHECK(mirtalughe_sweep(list, most, UINT32_MAX, pairs, room - 1).number == MIRTALUGHE_ROOM);
     CHECK(mirtalughe_all_pairs(list, most, pairs, room - 1).number == MIRTALUGHE_ROOM);
+    static uint8_t longest[MIRTALUGHE_LONGEST_FILE];
+    CHECK(mirtalughe_write(list, most, longest, sizeof longest).count == MIRTALUGHE_LONGEST_FILE);
+    CHECK(mirtalughe_read(longest, sizeof longest, list, MIRTALUGHE_LIST_ROOM).count == MIRTALUGHE_MOST_PIECES);
+    CHECK(mirtalughe_read(longest, sizeof longest - 1, list, MIRTALUGHE_LIST_ROOM).number == MIRTALUGHE_FILE_ENDS);
     list[1] = -MIRTALUGHE_LIMIT - 1;
     CHECK(mirtalughe_all_pairs(list, most, pairs, room).number == MIRTALUGHE_COORDINATE);
     size_t beyond = every_two_cross(MIRTALUGHE_MOST_PIECES + 1);

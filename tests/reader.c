@@ -15,42 +15,53 @@ static mirtalughe_answer refused(mirtalughe_refusal number, size_t place) {
     return (mirtalughe_answer){.number = number, .place = place, .count = 0};
 }
 
-/* A coordinate in at most three groups; done, or its refusal. */
-static mirtalughe_refusal coordinate(const uint8_t *file, size_t size, size_t *at, int32_t *v) {
+/* A number in at most three groups, and the place after it; done, or its refusal. */
+static mirtalughe_refusal number(const uint8_t *file, size_t size, size_t *at, int32_t *v) {
     size_t groups = 0;
     while (groups < 3 && *at + groups < size && file[*at + groups] & 0x80) groups++;
     if (groups == 3) return MIRTALUGHE_GROUPS;
     if (*at + groups >= size) return MIRTALUGHE_FILE_ENDS;
     if (groups > 0 && file[*at + groups] == 0) return MIRTALUGHE_GROUPS;
+    *v = 0;
+    for (size_t g = groups + 1; g-- > 0;) *v = *v << 7 | (file[*at + g] & 0x7f);
+    *at += groups + 1;
+    return MIRTALUGHE_DONE;
+}
+
+static mirtalughe_refusal coordinate(const uint8_t *file, size_t size, size_t *at, int32_t *v) {
+    size_t next = *at;
     int32_t stored = 0;
-    for (size_t g = groups + 1; g-- > 0;) stored = stored << 7 | (file[*at + g] & 0x7f);
+    mirtalughe_refusal refusal = number(file, size, &next, &stored);
+    if (refusal != MIRTALUGHE_DONE) return refusal;
     *v = stored & 1 ? -((stored + 1) >> 1) : stored >> 1;
     if (*v < -MIRTALUGHE_LIMIT || *v > MIRTALUGHE_LIMIT) return MIRTALUGHE_COORDINATE;
-    *at += groups + 1;
+    *at = next;
     return MIRTALUGHE_DONE;
 }
 
 static mirtalughe_answer expected(const uint8_t *file, size_t size, int32_t *list, size_t lent) {
     int32_t read[ROOM];
     if (lent < ROOM) return refused(MIRTALUGHE_ROOM, 0);
-    if (size == 0) return refused(MIRTALUGHE_FILE_ENDS, 0);
-    if (file[0] > MIRTALUGHE_MOST_PIECES) return refused(MIRTALUGHE_COUNT, 0);
-    size_t at = 1;
-    for (size_t p = 0; p < file[0]; p++) {
+    size_t at = 0;
+    int32_t count = 0;
+    mirtalughe_refusal refusal = number(file, size, &at, &count);
+    if (refusal != MIRTALUGHE_DONE) return refused(refusal, 0);
+    if (count > MIRTALUGHE_MOST_PIECES) return refused(MIRTALUGHE_COUNT, 0);
+    for (int32_t p = 0; p < count; p++) {
         size_t start = at;
         int32_t *piece = &read[MIRTALUGHE_PIECE_NUMBERS * p];
         if (at == size) return refused(MIRTALUGHE_FILE_ENDS, at);
         if (file[at] > 3) return refused(MIRTALUGHE_KIND, at);
         piece[0] = file[at++];
         for (int c = 1; c < MIRTALUGHE_PIECE_NUMBERS; c++) {
-            mirtalughe_refusal number = coordinate(file, size, &at, &piece[c]);
-            if (number != MIRTALUGHE_DONE) return refused(number, at);
+            refusal = coordinate(file, size, &at, &piece[c]);
+            if (refusal != MIRTALUGHE_DONE) return refused(refusal, at);
         }
         if (piece[1] == piece[3] && piece[2] == piece[4]) return refused(MIRTALUGHE_NO_LENGTH, start);
     }
     if (at < size) return refused(MIRTALUGHE_EXTRA_BYTES, at);
-    memcpy(list, read, MIRTALUGHE_PIECE_NUMBERS * file[0] * sizeof *list);
-    return (mirtalughe_answer){.number = MIRTALUGHE_DONE, .place = 0, .count = file[0]};
+    memcpy(list, read, MIRTALUGHE_PIECE_NUMBERS * (size_t)count * sizeof *list);
+    return (mirtalughe_answer){.number = MIRTALUGHE_DONE, .place = 0, .count = (size_t)count};
 }
 
 /* splitmix64: the same numbers everywhere from one seed */
@@ -69,17 +80,17 @@ static int32_t any_coordinate(void) {
     return below(2) ? v : -v;
 }
 
-static size_t put(uint8_t *at, int32_t v) {
+static size_t put_groups(uint8_t *at, uint32_t v) {
     size_t size = 0;
-    uint32_t stored = v < 0 ? -2 * v - 1 : 2 * v;
-    for (; stored >= 0x80; stored >>= 7) at[size++] = (stored & 0x7f) | 0x80;
-    at[size++] = (uint8_t)stored;
+    for (; v >= 0x80; v >>= 7) at[size++] = (v & 0x7f) | 0x80;
+    at[size++] = (uint8_t)v;
     return size;
 }
 
+static size_t put(uint8_t *at, int32_t v) { return put_groups(at, v < 0 ? -2 * v - 1 : 2 * v); }
+
 static size_t chart(uint8_t *file, uint32_t pieces) {
-    size_t size = 0;
-    file[size++] = (uint8_t)pieces;
+    size_t size = put_groups(file, pieces);
     for (uint32_t p = 0; p < pieces; p++) {
         file[size++] = (uint8_t)below(4);
         int32_t x = any_coordinate(), y = any_coordinate();
@@ -91,20 +102,30 @@ static size_t chart(uint8_t *file, uint32_t pieces) {
     return size;
 }
 
+/* The file with a group more in its count, for the most part zero. */
+static size_t longer_count(uint8_t *file, size_t size) {
+    size_t groups = file[0] < 0x80 ? 1 : 2;
+    memmove(file + groups + 1, file + groups, size - groups);
+    file[groups - 1] |= 0x80;
+    file[groups] = (uint8_t)(below(4) ? 0 : below(256));
+    return size + 1;
+}
+
 /* A file: of a chart, and damaged in one of several ways; or bytes of few values. */
 static size_t any_file(uint8_t *file) {
     static const uint8_t few[] = {0, 1, 2, 3, 4, 0x7f, 0x80, 0xff};
     if (below(4) == 0) {
         size_t size = below(24);
-        for (size_t i = 0; i < size; i++) file[i] = i == 0 ? (uint8_t)below(4) : few[below(8)];
+        for (size_t i = 0; i < size; i++) file[i] = i == 0 && below(4) ? (uint8_t)below(4) : few[below(8)];
         return size;
     }
     size_t size = chart(file, below(8) ? below(6) : below(MIRTALUGHE_MOST_PIECES + 1));
-    switch (below(5)) {
+    switch (below(6)) {
     case 0: return below((uint32_t)size + 1);
     case 1: file[below((uint32_t)size)] = below(2) ? few[below(8)] : (uint8_t)below(256); break;
     case 2: file[0] = (uint8_t)(below(2) ? file[0] + 1u : below(256)); break;
     case 3: for (uint32_t more = below(SPARE); more > 0; more--) file[size++] = (uint8_t)below(256); break;
+    case 4: return longer_count(file, size);
     }
     return size;
 }

@@ -1,12 +1,13 @@
-/* Prints how many bytes of stack each call takes on the largest chart and its file, and fails above 64 KiB. A call runs
-   on a stack that was painted beforehand; what it changed counts, and the caller's few words with it. */
+/* Prints how many bytes of stack each call takes on the largest chart and its file, and fails above 128 KiB, of
+   mirtalughe_full_sweep above 32. A call runs on a stack that was painted beforehand; what it changed counts, and the
+   caller's few words with it. */
 #include <stdio.h>
 #include <string.h>
 #include <ucontext.h>
 
 #include "mirtalughe.h"
 
-enum { ROOM = 1 << 18, MOST = 1 << 16, PAINT = 0xA5 };
+enum { ROOM = 1 << 18, MOST = 128 << 10, MOST_FULL_SWEEP = 32 << 10, PAINT = 0xA5 };
 
 static _Alignas(64) unsigned char stack[ROOM];
 static ucontext_t host, guest;
@@ -107,20 +108,20 @@ static size_t taken(void (*call)(void)) {
     return ROOM - kept;
 }
 
-static uint8_t *put(uint8_t *at, int32_t v) {
-    uint32_t stored = v < 0 ? -2 * v - 1 : 2 * v;
-    for (; stored >= 0x80; stored >>= 7) *at++ = (stored & 0x7f) | 0x80;
-    *at++ = (uint8_t)stored;
+static uint8_t *put_groups(uint8_t *at, uint32_t v) {
+    for (; v >= 0x80; v >>= 7) *at++ = (v & 0x7f) | 0x80;
+    *at++ = (uint8_t)v;
     return at;
 }
 
-/* A file of the most pieces, of which every two cross; every coordinate takes three groups. */
+static uint8_t *put(uint8_t *at, int32_t v) { return put_groups(at, v < 0 ? -2 * v - 1 : 2 * v); }
+
+/* A file of the most pieces, of which every two cross at points of their own; every coordinate takes three groups. */
 static void largest(void) {
-    uint8_t *at = file;
-    *at++ = MIRTALUGHE_MOST_PIECES;
+    uint8_t *at = put_groups(file, MIRTALUGHE_MOST_PIECES);
     for (int32_t i = 0; i < MIRTALUGHE_MOST_PIECES; i++) {
         *at++ = 3;
-        at = put(put(put(put(at, -MIRTALUGHE_LIMIT), 8200 + 31 * i), MIRTALUGHE_LIMIT), 16000 - 37 * i);
+        at = put(put(put(put(at, -MIRTALUGHE_LIMIT), 8200 + 120 * i), MIRTALUGHE_LIMIT), 32700 - i * (i + 1) / 2);
     }
     wrong |= at != file + sizeof file;
 }
@@ -132,22 +133,21 @@ int main(void) {
     } calls[] = {
         {"mirtalughe_read", read},       {"mirtalughe_orient", orient}, {"mirtalughe_compare_points", compare_points},
         {"mirtalughe_meeting", meeting}, {"mirtalughe_place", place},   {"mirtalughe_all_pairs", all_pairs},
-        {"mirtalughe_sweep", sweep},     {"mirtalughe_write", write},
-        {"mirtalughe_full_sweep", full_sweep}, {"mirtalughe_check", check},
-        {"mirtalughe_fold", fold},
-        {"mirtalughe_check", check},     {"mirtalughe_plain_order", plain_order},
-        {"mirtalughe_full_sweep", full_sweep}, {"mirtalughe_sweep_batch", sweep_batch}, {"mirtalughe_check", check},
+        {"mirtalughe_sweep", sweep},     {"mirtalughe_write", write},   {"mirtalughe_full_sweep", full_sweep},
+        {"mirtalughe_fold", fold},       {"mirtalughe_check", check},   {"mirtalughe_plain_order", plain_order},
+        {"mirtalughe_sweep_batch", sweep_batch},
         {"mirtalughe_region", region},   {"mirtalughe_half_line", half_line},
         {"mirtalughe_open_empty", open_empty}, {"mirtalughe_open_add", open_add}, {"mirtalughe_open_used", open_used},
         {"mirtalughe_open_pairs", open_pairs}, {"mirtalughe_open_drop", open_drop},
     };
     largest();
-    size_t none = taken(nothing), most = 0;
+    size_t none = taken(nothing);
+    int above = 0;
     for (size_t i = 0; i < sizeof calls / sizeof *calls; i++) {
-        size_t bytes = taken(calls[i].call) - none;
-        if (bytes > most) most = bytes;
-        printf("stack: %s takes %zu bytes\n", calls[i].name, bytes);
+        size_t bytes = taken(calls[i].call) - none, most = calls[i].call == full_sweep ? MOST_FULL_SWEEP : MOST;
+        above |= bytes > most;
+        printf("stack: %s takes %zu bytes%s\n", calls[i].name, bytes, bytes > most ? ", TOO MANY" : "");
     }
     if (wrong) puts("stack: a call did not answer as it should");
-    return wrong || most > MOST;
+    return wrong || above;
 }

@@ -206,32 +206,35 @@ def text_of_chart(chart):
     return "".join(row + "\n" for row in [f"# {' '.join(NUMBERS)}"] + rows).encode()
 
 
-# The chart file: the count, then the five numbers of each piece, in groups of seven bits.
+# The chart file: the count, then the five numbers of each piece; all but the kinds in groups of seven bits.
 
 
 def file_of_chart(chart):
-    data = bytearray([len(chart.pieces)])
+    data = bytearray(groups_of(len(chart.pieces)))
     for piece in chart.pieces:
         data.append(piece.kind)
         for v in piece.numbers()[1:]:
-            stored = 2 * v if v >= 0 else -2 * v - 1
-            while stored >= 0x80:
-                data.append(stored & 0x7F | 0x80)
-                stored >>= 7
-            data.append(stored)
+            data += groups_of(2 * v if v >= 0 else -2 * v - 1)
     return bytes(data)
 
 
+def groups_of(number):
+    """The fewest groups, the low one first, each but the last with its high bit set."""
+    groups = []
+    while number >= 0x80:
+        groups.append(number & 0x7F | 0x80)
+        number >>= 7
+    return bytes([*groups, number])
+
+
 def chart_of_file(data):
-    if not data:
-        raise Refused(1, 0, "the count is due")
-    if data[0] > MOST_PIECES:
-        raise Refused(3, 0, f"the count is {data[0]}")
-    pieces, at = [], 1
-    while len(pieces) < data[0]:
-        piece, end = piece_at(data, at, len(pieces))
+    count, at = groups_at(data, 0, "the count")
+    if count > MOST_PIECES:
+        raise Refused(3, 0, f"the count is {count}")
+    pieces = []
+    while len(pieces) < count:
+        piece, at = piece_at(data, at, len(pieces))
         pieces.append(piece)
-        at = end
     if at < len(data):
         raise Refused(7, at, f"piece {len(pieces) - 1} was the last" if pieces else "there are no pieces")
     return Chart(pieces)
@@ -252,6 +255,15 @@ def piece_at(data, start, piece):
 
 
 def coordinate_at(data, start, meaning):
+    stored, end = groups_at(data, start, meaning)
+    number = -(stored + 1 >> 1) if stored & 1 else stored >> 1
+    if abs(number) > LIMIT:
+        raise Refused(5, start, f"{meaning} is {number}")
+    return number, end
+
+
+def groups_at(data, start, meaning):
+    """The number that stands in groups at a byte, and the byte after it."""
     groups = 0
     while groups < MOST_GROUPS and start + groups < len(data) and data[start + groups] & 0x80:
         groups += 1
@@ -262,11 +274,7 @@ def coordinate_at(data, start, meaning):
     if groups and data[start + groups] == 0:
         raise Refused(2, start, f"{meaning} has a group too many")
     end = start + groups + 1
-    stored = sum((byte & 0x7F) << 7 * i for i, byte in enumerate(data[start:end]))
-    number = -(stored + 1 >> 1) if stored & 1 else stored >> 1
-    if abs(number) > LIMIT:
-        raise Refused(5, start, f"{meaning} is {number}")
-    return number, end
+    return sum((byte & 0x7F) << 7 * i for i, byte in enumerate(data[start:end])), end
 
 
 # The listing: `chart N`, `complete yes`, a line for each pair, `steps S`; or `refused K`.

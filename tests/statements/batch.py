@@ -8,7 +8,7 @@ import random
 import struct
 import sys
 
-MOST, CHARTS, NUMBERS, WORD = 64, 16, 10, 2**64
+MOST, CHARTS, NUMBERS, WORD = 200, 16, 10, 2**64
 
 
 def need(k):
@@ -69,7 +69,7 @@ def model(numbers, lengths, lent, room):
     left, free = len(numbers), len(lent)
     for k in lengths:
         pieces, rest = divmod(k, 5)
-        left, free = left - k, free - (pieces * (pieces - 1) if rest == 0 and pieces <= 64 else 0)
+        left, free = left - k, free - (pieces * (pieces - 1) if rest == 0 and pieces <= 200 else 0)
     if left != 0 or free < 0:
         return (11, 0, 0), lent, room
     if len(room) // 10 < len(lengths):
@@ -77,7 +77,7 @@ def model(numbers, lengths, lent, room):
     lent, told, start, at = list(lent), struct.pack(f"<{len(room)}Q", *room), 0, 0
     for i, k in enumerate(lengths):
         pieces, rest = divmod(k, 5)
-        end = at + (pieces * (pieces - 1) if rest == 0 and pieces <= 64 else 0)
+        end = at + (pieces * (pieces - 1) if rest == 0 and pieces <= 200 else 0)
         result, lent[at:end] = alone(numbers[start : start + k], lent[at:end])
         x, y, d = result[6] or (0, 0, 0)
         fields = struct.pack("<7Q2qQ", *result[:6], result[6] is not None, x, y, d)
@@ -88,7 +88,7 @@ def model(numbers, lengths, lent, room):
 
 def request(rnd):
     charts = rnd.choice((0, 1, 2, 3, 5, 15, 16, 17, 18))
-    lengths = [rnd.choice((0, 5, 10, 15, 20, 7, 325, 330)) if rnd.random() < 0.9 else rnd.randrange(60) for _ in range(charts)]
+    lengths = [rnd.choice((0, 5, 10, 15, 20, 7, 1005, 1010)) if rnd.random() < 0.9 else rnd.choice((*range(60), 1000)) for _ in range(charts)]
     numbers = [rnd.choice((0, 1, 2, 3)) if rnd.random() < 0.99 else 4 for _ in range(sum(lengths))]
     if lengths and rnd.random() < 0.2:
         lengths[rnd.randrange(charts)] += rnd.choice((1, 5, WORD, WORD - 1, WORD - 5))

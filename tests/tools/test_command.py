@@ -41,7 +41,7 @@ class Command(unittest.TestCase):
             fault = "number 4 (x2) is 32768, it must be from -32767 to 32767"
             self.assertEqual(said, f"chart.py: {text}, line 2: {fault}\n")
             self.assertEqual(data.read_bytes(), b"kept")
-        status, _, said = run("decode", given=b"\x41")
+        status, _, said = run("decode", given=b"\xc9\x01")
         self.assertEqual((status, said[:33]), (1, "chart.py: standard input, byte 0:"))
 
     def test_a_missing_file(self):

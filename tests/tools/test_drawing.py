@@ -5,7 +5,7 @@ import xml.etree.ElementTree as tree
 from math import dist
 
 import drawing
-from formats import At, Chart, Listing, Meeting, Piece, chart_of_text, listing_of_text
+from formats import MOST_PIECES, At, Chart, Listing, Meeting, Piece, chart_of_text, listing_of_text
 
 SVG = "{http://www.w3.org/2000/svg}"
 
@@ -69,11 +69,11 @@ class Drawing(unittest.TestCase):
             self.assertIn(word, words)
 
     def test_every_piece_has_its_number(self):
-        text = "".join(f"3 0 {i} 9 {i}\n" for i in range(64))
-        picture = drawn(text, "chart 64\ncomplete yes\nsteps 128\n")
-        self.assertEqual(len(picture.marked("piece")), 64)
-        self.assertEqual(len(picture.marked("tag")), 64)
-        self.assertLessEqual({str(i) for i in range(64)}, set(picture.words()))
+        text = "".join(f"3 0 {i} 9 {i}\n" for i in range(MOST_PIECES))
+        picture = drawn(text, f"chart {MOST_PIECES}\ncomplete yes\nsteps {2 * MOST_PIECES}\n")
+        self.assertEqual(len(picture.marked("piece")), MOST_PIECES)
+        self.assertEqual(len(picture.marked("tag")), MOST_PIECES)
+        self.assertLessEqual({str(i) for i in range(MOST_PIECES)}, set(picture.words()))
 
     def test_ends_open_and_filled(self):
         picture = drawn("0 0 0 1 1\n1 2 0 3 1\n2 4 0 5 1\n3 6 0 7 1\n", "chart 4\ncomplete yes\nsteps 8\n")
@@ -135,12 +135,13 @@ class Drawing(unittest.TestCase):
         self.assertEqual(picture.marked("piece"), [])
 
     def test_most_of_everything(self):
-        """64 pieces of which every two meet, all at places of their own: each gets a ring, and labels stay inside."""
-        pieces = [Piece(3, -32767, 1000 * i - 32000, 32767, 32000 - 1000 * i) for i in range(64)]
-        pairs = list(itertools.combinations(range(64), 2))
-        places = [[1000 * number - 32000 for number in pair] for pair in pairs]
+        """As many pieces as a chart has, of which every two meet, all at places of their own: each gets a ring, and labels
+        stay inside."""
+        pieces = [Piece(3, -32767, 300 * i - 30000, 32767, 30000 - 300 * i) for i in range(MOST_PIECES)]
+        pairs = list(itertools.combinations(range(MOST_PIECES), 2))
+        places = [[300 * number - 30000 for number in pair] for pair in pairs]
         meetings = [Meeting(pair, At(x, x, y, y)) for pair, (x, y) in zip(pairs, places)]
-        picture = Picture(Chart(pieces), Listing(64, True, meetings, 2144))
+        picture = Picture(Chart(pieces), Listing(MOST_PIECES, True, meetings, 2 * MOST_PIECES + len(pairs)))
         self.assertEqual(len(picture.marked("meeting")), len(pairs))
         self.assertEqual(picture.pairs(), sorted(f"{a},{b}" for a, b in pairs))
         for mark in picture.marked("pair"):

@@ -4,7 +4,7 @@ import re
 import unittest
 from pathlib import Path
 
-from formats import LIMIT, MOST_PIECES, Along, At, Chart, Meeting, Piece, Refused, Wrong
+from formats import LIMIT, LONGEST_FILE, MOST_PIECES, Along, At, Chart, Meeting, Piece, Refused, Wrong
 from formats import chart_of_file, chart_of_text, file_of_chart, listing_of_text, text_of_chart
 
 ROOT = Path(__file__).parents[2]
@@ -15,7 +15,7 @@ SCOPES_FILE = bytes.fromhex("02 03 00 00 08 08 03 00 08 08 00")
 
 def random_chart(seed):
     rnd, pieces = random.Random(seed), []
-    for _ in range(rnd.choice((0, 1, 2, 5, MOST_PIECES))):
+    for _ in range(rnd.choice((0, 1, 2, 5, 127, 128, MOST_PIECES))):
         most = rnd.choice((1, 63, 64, 8191, 8192, LIMIT))
         x1, y1, x2, y2 = (rnd.choice((-most, most, rnd.randint(-most, most))) for _ in range(4))
         if (x1, y1) != (x2, y2):
@@ -116,7 +116,25 @@ class File(unittest.TestCase):
 
     def test_longest(self):
         chart = Chart([Piece(3, LIMIT, LIMIT, -LIMIT, LIMIT)] * MOST_PIECES)
-        self.assertEqual(len(file_of_chart(chart)), 1 + 13 * MOST_PIECES)
+        self.assertEqual(len(file_of_chart(chart)), LONGEST_FILE)
+        self.assertEqual((MOST_PIECES, LONGEST_FILE), (200, 2602))
+
+    def test_counts(self):
+        """One group below 128, two from there on; one piece more than a chart has is refused for its count."""
+        for count in range(MOST_PIECES + 2):
+            data = file_of_chart(Chart([Piece(3, 0, 0, 1, 1)] * count))
+            front = [count] if count < 128 else [count | 128, 1]
+            self.assertEqual([*data[: len(front)], len(data)], [*front, len(front) + 5 * count])
+            if count <= MOST_PIECES:
+                self.assertEqual(len(chart_of_file(data).pieces), count)
+            else:
+                self.assertIn(f"byte 0: the count is {count} (refused 3: ", told(chart_of_file, data))
+
+    def test_older_files(self):
+        """What an older reader took as one byte, from 0 to 64, is the same count in one group."""
+        for count in range(65):
+            data = bytes([count]) + bytes.fromhex("03 00 00 02 02") * count
+            self.assertEqual(len(chart_of_file(data).pieces), count)
 
     def test_round_trips(self):
         for seed in range(300):
@@ -152,7 +170,14 @@ class File(unittest.TestCase):
     def test_what_is_told(self):
         for data, said in (
             ("", "byte 0: the count is due (refused 1: "),
-            (f"{MOST_PIECES + 1:x}", f"byte 0: the count is {MOST_PIECES + 1} (refused 3: count above {MOST_PIECES})"),
+            ("C9", "byte 0: the count is cut (refused 1: "),
+            ("C9 80", "byte 0: the count is cut (refused 1: "),
+            ("80 00", "byte 0: the count has a group too many (refused 2: "),
+            ("C8 81 00", "byte 0: the count has a group too many (refused 2: "),
+            ("C8 81 80", "byte 0: the count does not end (refused 2: "),
+            ("C8 01", "byte 2: the kind of piece 0 is due (refused 1: "),
+            ("C9 01", f"byte 0: the count is 201 (refused 3: count above {MOST_PIECES})"),
+            ("80 80 01", f"byte 0: the count is 16384 (refused 3: count above {MOST_PIECES})"),
             ("01 03 02", "byte 3: y1 of piece 0 is due (refused 1: "),
             ("01 03 02 80", "byte 3: y1 of piece 0 is cut (refused 1: "),
             ("01 03 80 00", "byte 2: x1 of piece 0 has a group too many (refused 2: "),

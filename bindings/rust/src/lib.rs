@@ -54,7 +54,7 @@ pub const MOST_FOLDED: usize = number(env!("MIRTALUGHE_MOST_FOLDED"));
 pub const FOLD_ROOM: usize = PIECE_NUMBERS * MOST_FOLDED;
 
 /// The bytes of the longest chart file. At least as many are lent to [`write`].
-pub const LONGEST_FILE: usize = 1 + 13 * MOST_PIECES;
+pub const LONGEST_FILE: usize = 2 + 13 * MOST_PIECES;
 
 /// The most pairs of a chart.
 pub const MOST_PAIRS: usize = pairs_room(MOST_PIECES) / 2;

@@ -59,8 +59,14 @@ fn writing() {
   let groups = [2, 3, 0x7E, 0x7F, 0x80, 1, 0x81, 1, 0, 0xFE, 0x7F, 0xFF, 0x7F, 0x80, 0x80, 1, 0x81, 0x80, 1];
   assert_eq!(write(&edges, &mut lent), Ok(&groups[..]));
   let widest = [[3, LIMIT, -1, -LIMIT, 0]; MOST_PIECES].concat();
-  let front = [MOST_PIECES as u8, 3, 0xFE, 0xFF, 3, 1, 0xFD, 0xFF, 3, 0];
-  assert_eq!(write(&widest, &mut lent).unwrap()[..10], front);
+  let front = [0xC8, 1, 3, 0xFE, 0xFF, 3, 1, 0xFD, 0xFF, 3, 0];
+  assert_eq!(write(&widest, &mut lent).unwrap()[..11], front);
+  for (count, groups) in [(127, &[127][..]), (128, &[0x80, 1]), (MOST_PIECES, &[0xC8, 1])] {
+    let file = write(widest[..PIECE_NUMBERS * count].as_ref(), &mut lent).unwrap();
+    assert_eq!((&file[..groups.len()], file[groups.len()]), (groups, 3));
+  }
+  let longest = [[3, LIMIT, -LIMIT, -LIMIT, LIMIT]; MOST_PIECES].concat();
+  assert_eq!(write(&longest, &mut lent).unwrap().len(), LONGEST_FILE);
 }
 
 #[test]

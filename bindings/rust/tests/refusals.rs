@@ -13,13 +13,17 @@ fn files() {
     "refused 2: the third group has its high bit set, or the last of several groups is zero, at byte";
   let coordinate = "refused 5: coordinate out of range, at byte";
   let many = format!("refused 3: count above {MOST_PIECES}");
-  let wrong: [(&[u8], Fault, usize, String); 12] = [
+  let wrong: [(&[u8], Fault, usize, String); 16] = [
     (&[], Fault::FileEnds, 0, format!("{cut} 0")),
     (&[1, 3, 0], Fault::FileEnds, 3, format!("{cut} 3")),
     (&[1, 3, 0, 0x80], Fault::FileEnds, 3, format!("{cut} 3")),
     (&[1, 3, 0x80, 0], Fault::Groups, 2, format!("{groups} 2")),
     (&[1, 3, 0, 0x80, 0x80, 0x80], Fault::Groups, 3, format!("{groups} 3")),
-    (&[MOST_PIECES as u8 + 1], Fault::Count, 0, format!("{many}, at byte 0")),
+    (&[0xC9], Fault::FileEnds, 0, format!("{cut} 0")),
+    (&[0x81, 0], Fault::Groups, 0, format!("{groups} 0")),
+    (&[0x81, 0x80, 0x80], Fault::Groups, 0, format!("{groups} 0")),
+    (&[0xC9, 1], Fault::Count, 0, format!("{many}, at byte 0")),
+    (&[0x81, 0x80, 1], Fault::Count, 0, format!("{many}, at byte 0")),
     (&[1, 4], Fault::Kind, 1, "refused 4: kind outside 0 to 3, at byte 1".into()),
     (&[1, 3, 0xFF, 0xFF, 3], Fault::Coordinate, 2, format!("{coordinate} 2")),
     (&[1, 3, 0, 0, 0, 0x80, 0x80, 4], Fault::Coordinate, 5, format!("{coordinate} 5")),

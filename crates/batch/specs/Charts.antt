@@ -12,7 +12,7 @@ use Rattle.bentley_ottmann.specs.declared.Swept.{Swept}
 use Rattle.batch.specs.Numbers.{numbersOf}
 use Rattle.batch.specs.Single.{sweptAlone, leftAlone}
 
--- "n(n-1) [bytes] .., a chart whose length is no multiple of five or that has more than 64 pieces needing none"
+-- "n(n-1) [bytes] .., a chart whose length is no multiple of five or that has more than 200 pieces needing none"
 unfoldable pub need : ℕ → ℕ
 need k = cond (eqb (k % 5) 0) (cond (leb (k / 5) most) (room (k / 5)) 0) 0
 

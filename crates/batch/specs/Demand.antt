@@ -27,7 +27,7 @@ OnEveryCall P =
     → Batches list lengths lent numbers r after told → P list lengths lent numbers r after told
 
 -- ---- what is needed
--- "n(n-1) [bytes] .., a chart whose length is no multiple of five or that has more than 64 pieces needing none"
+-- "n(n-1) [bytes] .., a chart whose length is no multiple of five or that has more than 200 pieces needing none"
 pub data Needed (k : ℕ) : ℕ → Type 0 where
   a-chart : (n : ℕ) → k ≡ 5 * n → n ≤ most → Needed k (room n)
   too-many : (n : ℕ) → k ≡ 5 * n → most < n → Needed k 0

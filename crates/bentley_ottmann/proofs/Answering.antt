@@ -110,9 +110,9 @@ module _ (list : List ℤ) (n : ℕ) (e : verdictOf list ≡ Accepted n) where
       go : Due list (Accepted n) → length list ≡ 5 * n
       go (done n q h s) = q
 
-  module _ (table : List ℤ) (f : table ≡ filled list n (replicate 320 (pos 0))) where
+  module _ (table : List ℤ) (f : table ≡ filled list n (replicate (5 * most) (pos 0))) where
     pub its-pieces : pieceIn table ≡ pieceAt list
-    its-pieces = ap pieceIn f ∙ filled-pieces list n 320 list-long (omega (arith, accepted-most list n e, length-replicate {A = ℤ} 320 (pos 0)))
+    its-pieces = ap pieceIn f ∙ filled-pieces list n (5 * most) list-long (omega (arith, accepted-most list n e, length-replicate {A = ℤ} (5 * most) (pos 0)))
 
     pub its-length : (i : ℕ) → i < n → HasLength (pieceIn table i)
     its-length i h = rw (ap (λ (piece : ℕ → LineSegment). piece i) its-pieces) (pieces-have-length list n i e h)

@@ -12,7 +12,8 @@
                 reads or writes it during the call. What is const nobody writes during the call; it may be one list in
                 several calls at once.
    Threads.     A call keeps nothing after it returns and has no state, so that any number may run at once.
-   Memory.      Nothing is allocated. A call takes at most 12 KiB of stack, as measured (tests/stack.c).
+   Memory.      Nothing is allocated. A call takes at most 83 KiB of stack, mirtalughe_full_sweep at most 8, as measured
+                (tests/stack.c).
    Refusals.    Whatever it is given, a call returns. A refusal has `number` other than MIRTALUGHE_DONE and a `place`;
                 every other field is zero or false, and lent memory keeps its content.
    -32,768.     It is no coordinate of a chart. A list or a file that has it is refused with MIRTALUGHE_COORDINATE. Only
@@ -30,12 +31,12 @@ extern "C" {
 
 /* ---- version: of what this header says. MAJOR grows where a program that was right may have to change. */
 #define MIRTALUGHE_VERSION_MAJOR 0
-#define MIRTALUGHE_VERSION_MINOR 15
-#define MIRTALUGHE_VERSION_PATCH 3
-#define MIRTALUGHE_VERSION "0.15.3"
+#define MIRTALUGHE_VERSION_MINOR 16
+#define MIRTALUGHE_VERSION_PATCH 0
+#define MIRTALUGHE_VERSION "0.16.0"
 
 /* ---- sizes */
-#define MIRTALUGHE_MOST_PIECES 64 /* of a chart */
+#define MIRTALUGHE_MOST_PIECES 200 /* of a chart */
 #define MIRTALUGHE_LIMIT 32767 /* coordinates run from -MIRTALUGHE_LIMIT to MIRTALUGHE_LIMIT */
 #define MIRTALUGHE_PIECE_NUMBERS 5 /* kind, x1, y1, x2, y2 */
 #define MIRTALUGHE_TWO_PIECES (2 * MIRTALUGHE_PIECE_NUMBERS) /* numbers that a call on two pieces takes */
@@ -48,8 +49,9 @@ extern "C" {
 #define MIRTALUGHE_FOLD_ROOM (MIRTALUGHE_PIECE_NUMBERS * MIRTALUGHE_MOST_FOLDED)
 #define MIRTALUGHE_MOST_ORDER 60 /* of a folded line */
 
-/* Bytes of the longest chart file, to lend to mirtalughe_write whatever the chart: the count, and of each piece its kind and four coordinates of three bytes. */
-#define MIRTALUGHE_LONGEST_FILE (1 + 13 * MIRTALUGHE_MOST_PIECES)
+/* Bytes of the longest chart file, to lend to mirtalughe_write whatever the chart: the count in two bytes, and of each
+   piece its kind in one and four coordinates in three each. */
+#define MIRTALUGHE_LONGEST_FILE (2 + 13 * MIRTALUGHE_MOST_PIECES)
 
 /* Bytes to lend for the pairs of n pieces, two a pair; n is evaluated twice. */
 #define MIRTALUGHE_PAIRS_ROOM(n) ((n) * ((n)-1))
@@ -115,8 +117,7 @@ typedef enum {
 
 /* ---- answers. `number` is one of mirtalughe_refusal, and `place` a byte of the file or the number of a piece. */
 
-/* `count` pieces read, drawn or standing on an open chart, bytes written, or pairs listed. */
-/* `count` pieces read, bytes written, pairs listed, or charts swept. */
+/* `count` pieces read, drawn or standing on an open chart, bytes written, pairs listed, or charts swept. */
 typedef struct {
     uint8_t number;
     size_t place;
@@ -257,8 +258,8 @@ mirtalughe_answer mirtalughe_write(const int32_t *list, size_t length, uint8_t *
    piece runs from joint to joint, from left to right; it includes its first end and excludes its last, and the final one
    includes both. So at every x from 0 to s one piece holds the folded value. Refusals: MIRTALUGHE_ARGUMENT,
    MIRTALUGHE_UNEVEN where a joint jh/m would not be whole, MIRTALUGHE_TOO_MANY, MIRTALUGHE_ROOM where `lent` is under
-   five numbers a piece; MIRTALUGHE_FOLD_ROOM is always enough. Numbers past the last piece keep their values. A list of
-   more than MIRTALUGHE_MOST_PIECES pieces is no chart: the other calls refuse it with MIRTALUGHE_COUNT. */
+   five numbers a piece; MIRTALUGHE_FOLD_ROOM is always enough. Numbers past the last piece keep their values. The list is
+   a chart. */
 mirtalughe_answer mirtalughe_fold(uint32_t m, uint32_t h, uint32_t s, int32_t *list, size_t lent);
 
 /* How the two pieces of a list meet, the first one asking; `length` is MIRTALUGHE_TWO_PIECES. */
@@ -266,7 +267,8 @@ mirtalughe_met mirtalughe_meeting(const int32_t *list, size_t length);
 
 /* Where the two pieces of a list meet; `length` is MIRTALUGHE_TWO_PIECES. Along, the values are the stretch's ends,
    whole and exact, and so is the one point of two pieces on one line. At, each is the double nearest to the exact
-   value, ties to even, within 1/2^39 of it, and never negative zero; for this the processor's rounding mode is the default one, to the nearest, during the call. */
+   value, ties to even, within 1/2^39 of it, and never negative zero; for this the processor's rounding mode is the
+   default one, to the nearest, during the call. */
 mirtalughe_placed mirtalughe_place(const int32_t *list, size_t length);
 
 /* Every pair of a list's n pieces that meet, two bytes a pair, the greater number first: for a from 0, for b below a.

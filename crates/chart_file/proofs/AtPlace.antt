@@ -2,7 +2,8 @@
 use mathlib.Core.Path.{_≡_, sym, ap, _∙_}
 use mathlib.Core.Bool.{false, _&&_, and-false}
 use mathlib.Core.List.{List, [], _∷_, _++_}
-use Prim.Native.Nat.{ℕ, zero, suc, _+_, _^_, _≤_, _<_}
+use Prim.Native.Nat.{ℕ, zero, suc, _+_, _*_, _%_, _^_, _≤_, _<_}
+use native.Mathlib.Nat.{pow-suc}
 use native.Mathlib.Decide.{decLt}
 use native.Mathlib.Omega.{arith}
 use borrow.Author.Tests.{le-ltb, lt-leb, ne-eqb}
@@ -50,6 +51,23 @@ marked-take (b ∷ t) l = elim (decLt b 128) [
       let e : marked (b ∷ t) ≡ suc (marked t) = marked-more b t (omega arith) in
       rw e (marked-more b (take (suc (marked t)) t) (omega arith) ∙ ap suc (marked-take t (omega arith)))
 ]
+
+-- They stand for no less than their count of groups calls for, whatever the bytes.
+pub value-least : (t : List ℕ) → marked t < length t → (getD t (marked t) 0 ≡ 0 → ⊥) → 128 ^ marked t ≤ value (take (suc (marked t)) t)
+unfolding value
+value-least [] l z = absurd (omega arith)
+value-least (b ∷ t) l z = elim (decLt b 128) [
+  | yes h ↦
+      let e : marked (b ∷ t) ≡ 0 = marked-last b t h in
+      let z′ : b ≡ 0 → ⊥ = rw e at z in
+      rw e (omega arith)
+  | no g ↦
+      let e : marked (b ∷ t) ≡ suc (marked t) = marked-more b t (omega arith) in
+      rw (e, pow-suc) (more (128 ^ marked t) (value (take (suc (marked t)) t)) (value-least t (omega arith) (rw e at z)))
+]
+  where
+    more : (p w : ℕ) → p ≤ w → p * 128 ≤ b % 128 + 128 * w
+    more p w h = omega arith
 
 bytes-take : (n : ℕ) (t : List ℕ) → Bytes t → Bytes (take n t)
 bytes-take zero [] b = tt

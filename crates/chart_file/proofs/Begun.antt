@@ -13,7 +13,7 @@ use Rattle.charts.specs.Chart.{numberAt, faultAt}
 use Rattle.charts.specs.Demand.{Off, none, four, five, six}
 use Rattle.charts.specs.Demand.{Fault as Faulty}
 use Rattle.charts.proofs.Rows.{fault-due, fault-given}
-use Rattle.chart_file.specs.Format.{bytesOf, bytesFrom}
+use Rattle.chart_file.specs.Format.{bytesOf, bytesFrom, countOf}
 use Rattle.chart_file.specs.Demand.{InRange, placeOf, EndsEqual, Begins}
 
 -- ---- bytes of lists
@@ -31,8 +31,8 @@ bytes-one p c xs v l h =
     let e : (0 + length xs) % 5 ≡ c = omega arith in
     bytes-append 0 xs (v ∷ []) ∙ rw (e, append-nil)
 
-pub place-one : (p c : ℕ) (xs : List ℤ) (v : ℤ) → length xs ≡ 5 * p + c → c < 5 → placeOf (xs ++ (v ∷ [])) ≡ placeOf xs + length (bytesOf c v)
-place-one p c xs v l h = rw (bytes-one p c xs v l h) (omega (arith, length-append (bytesFrom 0 xs) (bytesOf c v)))
+pub place-one : (n p c : ℕ) (xs : List ℤ) (v : ℤ) → length xs ≡ 5 * p + c → c < 5 → placeOf n (xs ++ (v ∷ [])) ≡ placeOf n xs + length (bytesOf c v)
+place-one n p c xs v l h = rw (bytes-one p c xs v l h) (omega (arith, length-append (bytesFrom 0 xs) (bytesOf c v)))
 
 -- ---- numbers of lists
 
@@ -53,12 +53,15 @@ ends-back xs ys i h e = (kept xs ys i 1 (omega arith) ∙ e .0 ∙ sym (kept xs 
 -- ---- what a file begins with
 
 module _ (s : List ℕ) (n p : ℕ) where
-  pub rest-there : (xs : List ℤ) (rest : List ℕ) → Begins s n p xs rest → drop (placeOf xs) s ≡ rest
-  rest-there xs rest b = ap (drop (placeOf xs)) (b .file) ∙ drop-append-seam (bytesFrom 0 xs) rest
+  pub rest-there : (xs : List ℤ) (rest : List ℕ) → Begins s n p xs rest → drop (placeOf n xs) s ≡ rest
+  rest-there xs rest b =
+      let front : List ℕ = countOf n ++ bytesFrom 0 xs in
+      let e : placeOf n xs ≡ length front = sym (length-append (countOf n) (bytesFrom 0 xs)) in
+      rw (e, b .file, ← append-assoc) (drop-append-seam front rest)
 
   pub begins-more : (c : ℕ) (xs : List ℤ) (v : ℤ) (rest : List ℕ) → c < 5 → length xs ≡ 5 * p + c → InRange c v → Begins s n p xs (bytesOf c v ++ rest) → Begins s n p (xs ++ (v ∷ [])) rest
   begins-more c xs v rest h l r b = record {
-    file = b .file ∙ ap (λ (t : List ℕ). n ∷ t) (sym (append-assoc (bytesFrom 0 xs) (bytesOf c v) rest) ∙ ap (λ (t : List ℕ). t ++ rest) (sym (bytes-one p c xs v l h)));
+    file = b .file ∙ ap (λ (t : List ℕ). countOf n ++ t) (sym (append-assoc (bytesFrom 0 xs) (bytesOf c v) rest) ∙ ap (λ (t : List ℕ). t ++ rest) (sym (bytes-one p c xs v l h)));
     few = b .few;
     ranges = λ i d q m. elim (decLt (5 * i + d) (length xs)) [
       | yes y ↦ subst (InRange d) (sym (kept xs (v ∷ []) i d y)) (b .ranges i d q y)

@@ -2,26 +2,28 @@
 use mathlib.Core.Path.{_≡_, refl, sym, ap, _∙_}
 use mathlib.Core.Bool.{Bool, true, false, cond, _&&_}
 use mathlib.Core.List.{List, [], _∷_}
-use Prim.Native.Nat.{ℕ, zero, suc, _+_, _*_, _-_, _≤_, _<_, min}
+use Prim.Native.Nat.{ℕ, zero, suc, _+_, _*_, _-_, _^_, _≤_, _<_, min}
 use native.Mathlib.Decide.{decLt}
 use native.Mathlib.Omega.{arith}
 use lib.Dec.{ltb, leb, eqb}
 use lib.IntN.{ℤ, pos, negℤ}
 use lib.ListN.{length, getD, take, drop, length-drop}
 use lib.Seq.{take-nil, length-take-le, getD-take, take-take, take-all}
-use borrow.Author.Tests.{ltb-false, le-leb, lt-leb, lt-ltb}
+use borrow.Author.Tests.{ltb-false, leb-false, le-leb, lt-leb, lt-ltb, eq-eqb}
 use Rattle.charts.specs.Fault.{range, outside}
 use Rattle.charts.specs.Chart.{most, faultAt}
 use Rattle.chart_file.specs.declared.Groups.{Groups}
 use Rattle.chart_file.specs.declared.Groups.the-variants.{Value, Fault}
 use Rattle.chart_file.specs.declared.Number.{Number}
 use Rattle.chart_file.specs.declared.Number.the-variants.{Read, Refused}
-use Rattle.chart_file.specs.Groups.{marked, groupsAt}
+use Rattle.chart_file.specs.Groups.{value, marked, groupsAt}
 use Rattle.chart_file.specs.Coordinate.{signedOf}
 use Rattle.chart_file.specs.Format.{groups, longest}
-use Rattle.chart_file.specs.Reading.{Reading, due, stopped, kindAt, turned, coordinateAt, standsAt, joined, more, numbers, withLength, piece, pieces, ended, readingOf}
+use Rattle.chart_file.specs.Reading.{Reading, due, stopped, limited, countAt, counted, kindAt, turned, coordinateAt, standsAt, joined, more, numbers, withLength, piece, pieces, ended, readingOf}
 use Rattle.chart_file.specs.Early.{DecidedEarly}
 use Rattle.chart_file.proofs.Spelling.{marked-last, marked-more}
+use Rattle.chart_file.proofs.AtPlace.{value-least}
+use Rattle.chart_file.proofs.Marks.{and-neither}
 
 -- ---- the front of a list
 drop-take : (i j : ℕ) (l : List ℕ) → i ≤ j → drop i (take j l) ≡ take (j - i) (drop i l)
@@ -99,6 +101,43 @@ groups-reach k s at = elim (decLt (marked (drop at s)) k) [
   | no l ↦ rw (le-leb k (marked (drop at s)) (omega arith)) tt
 ]
 
+-- a chart's count takes two groups at most
+abbrev CountBy : Groups → Type 0
+CountBy (Value n next) = (n ≤ most) × (next ≤ 2)
+CountBy (Fault f) = Unit
+
+count-reach : (s : List ℕ) → CountBy (countAt s)
+unfolding countAt limited groupsAt
+count-reach s = go (leb groups m) (leb (length s) m) (ltb 0 m && eqb (getD s m 0) 0) refl refl refl
+  where
+    m : ℕ
+    m = marked s
+
+    v : ℕ
+    v = value (take (suc m) s)
+
+    large : (m v : ℕ) → m ≡ 2 → 128 ^ m ≤ v → v ≤ most → ⊥
+    large m v e w few = omega (arith, rw e at w)
+
+    short : m < groups → m < length s → ((ltb 0 m && eqb (getD s m 0) 0) ≡ false) → v ≤ most → suc m ≤ 2
+    short h l e few = elim (decLt m 2) [
+      | yes y ↦ y
+      | no y ↦
+          let w : 128 ^ m ≤ v = value-least s l (λ z. and-neither (ltb 0 m) (eqb (getD s m 0) 0) e (lt-ltb 0 m (omega arith)) (eq-eqb (getD s m 0) 0 z)) in
+          absurd (large m v (omega arith) w few)
+    ]
+
+    test : (x : Bool) → ltb most v ≡ x → m < groups → m < length s → ((ltb 0 m && eqb (getD s m 0) 0) ≡ false) → CountBy (cond x (Fault 3) (Value v (0 + suc m)))
+    test true q h l e = tt
+    test false q h l e = (ltb-false most v q, omega (arith, short h l e (ltb-false most v q)))
+
+    go : (x y z : Bool) → leb groups m ≡ x → leb (length s) m ≡ y → (ltb 0 m && eqb (getD s m 0) 0) ≡ z
+        → CountBy (limited (cond x (Fault 2) (cond y (Fault 1) (cond z (Fault 2) (Value v (0 + suc m))))))
+    go true y z ex ey ez = tt
+    go false true z ex ey ez = tt
+    go false false true ex ey ez = tt
+    go false false false ex ey ez = test (ltb most v) refl (leb-false groups m ex) (leb-false (length s) m ey) ez
+
 kind-reach : (s : List ℕ) (at : ℕ) → NumberBy (at + 1) (kindAt s at)
 unfolding kindAt
 kind-reach s at =
@@ -171,13 +210,13 @@ module _ (s : List ℕ) (j : ℕ) (long : j < length s) where
   piece-alike p b (due xs at) l h = length-alike p at (b + 13) (numbers-alike 5 b (due xs at) (omega arith) l h)
   piece-alike p b (stopped f q) l h = record { same = refl; reach = tt }
 
-  pieces-alike : (n : ℕ) → 1 + 13 * n ≤ j → Alike (1 + 13 * n) (pieces (take j s) n) (pieces s n)
+  pieces-alike : (from n : ℕ) → from + 13 * n ≤ j → Alike (from + 13 * n) (pieces (take j s) from n) (pieces s from n)
   unfolding pieces
-  pieces-alike zero l = record { same = refl; reach = omega arith }
-  pieces-alike (suc n) l =
-      let before = pieces-alike n (omega arith) in
-      let now = piece-alike n (1 + 13 * n) (pieces s n) (omega arith) (before .reach) in
-      let e : 1 + 13 * n + 13 ≡ 1 + 13 * suc n = omega arith in
+  pieces-alike from zero l = record { same = refl; reach = omega arith }
+  pieces-alike from (suc n) l =
+      let before = pieces-alike from n (omega arith) in
+      let now = piece-alike n (from + 13 * n) (pieces s from n) (omega arith) (before .reach) in
+      let e : from + 13 * n + 13 ≡ from + 13 * suc n = omega arith in
       record { same = ap (piece (take j s) n) (before .same) ∙ now .same; reach = rw e at (now .reach) }
 
   ended-same : (r : Reading) → ReadingBy longest r → longest < j → ended (length (take j s)) r ≡ ended (length s) r
@@ -186,18 +225,14 @@ module _ (s : List ℕ) (j : ℕ) (long : j < length s) where
   ended-same (stopped f p) h l = refl
 
   reading-same : longest < j → readingOf (take j s) ≡ readingOf s
-  unfolding readingOf
-  reading-same l =
-      rw (getD-take j s 0 0 (omega arith), lt-leb (length (take j s)) 0 (omega (arith, front-length s j long)), lt-leb (length s) 0 (omega arith)) (go (ltb most (getD s 0 0)) refl)
+  unfolding readingOf countAt counted
+  reading-same l = rw (groups-same s j long groups 0 (omega arith)) (go (countAt s) (count-reach s))
     where
-      go : (t : Bool) → ltb most (getD s 0 0) ≡ t
-          → cond t (stopped 3 0) (ended (length (take j s)) (pieces (take j s) (getD s 0 0))) ≡ cond t (stopped 3 0) (ended (length s) (pieces s (getD s 0 0)))
-      go true e = refl
-      go false e =
-          let n = getD s 0 0 in
-          let few = ltb-false most n e in
-          let a = pieces-alike n (omega arith) in
-          ap (ended (length (take j s))) (a .same) ∙ ended-same (pieces s n) (reading-later (pieces s n) (a .reach) (omega arith)) l
+      go : (g : Groups) → CountBy g → counted (take j s) g ≡ counted s g
+      go (Value n next) h =
+          let a = pieces-alike next n (omega arith) in
+          ap (ended (length (take j s))) (a .same) ∙ ended-same (pieces s next n) (reading-later (pieces s next n) (a .reach) (omega arith)) l
+      go (Fault f) h = refl
 
 pub decided-early : DecidedEarly
 decided-early s k l = elim (decLt k (length s)) [

@@ -5,11 +5,11 @@ use Rattle.charts.specs.Chart.{numberAt, faultAt}
 use Rattle.chart_file.specs.Groups.{value, marked, groupsAt, spelled}
 use Rattle.chart_file.specs.Coordinate.{stored, signedOf}
 use Rattle.chart_file.specs.Format.{bytesOf}
-use Rattle.chart_file.specs.Reading.{kindAt, turned, coordinateAt, standsAt, joined, more, numbers, withLength, piece, pieces, ended, readingOf}
+use Rattle.chart_file.specs.Reading.{limited, countAt, counted, kindAt, turned, coordinateAt, standsAt, joined, more, numbers, withLength, piece, pieces, ended, readingOf}
 use Rattle.chart_file.specs.Examples.{Examples}
 
 pub examples : Examples
-unfolding outside offRange eqZ sameEnds faultOf numberAt faultAt value marked groupsAt spelled stored signedOf bytesOf kindAt turned coordinateAt standsAt joined more numbers withLength piece pieces ended readingOf
+unfolding outside offRange eqZ sameEnds faultOf numberAt faultAt value marked groupsAt spelled stored signedOf bytesOf limited countAt counted kindAt turned coordinateAt standsAt joined more numbers withLength piece pieces ended readingOf
 examples = record {
   too-far = refl;
   padded = refl;
@@ -27,6 +27,12 @@ examples = record {
   crossing = refl;
   third-marked = refl;
   no-length = refl;
-  count-64 = refl;
-  count-65 = refl;
+  count-200 = refl;
+  count-201 = refl;
+  count-127 = refl;
+  count-128 = refl;
+  count-cut = refl;
+  count-padded = refl;
+  count-unended = refl;
+  count-16384 = refl;
 }

@@ -6,7 +6,7 @@ use Prim.Native.Nat.{ℕ, zero, suc, _+_, _*_, _/_, _%_, _≤_, _<_}
 use native.Mathlib.Nat.{add-zero, zero-add}
 use native.Mathlib.Omega.{arith}
 use lib.IntN.{ℤ, pos}
-use lib.ListN.{length, getD}
+use lib.ListN.{length, getD, length-append}
 use Rattle.charts.specs.Chart.{most, numberAt, verdictOf}
 use Rattle.charts.specs.Demand.{Row4, Row5, none, four, five, six, FaultOf, Sound}
 use Rattle.charts.specs.Demand.{Due as ChartDue, done}
@@ -15,7 +15,7 @@ use Rattle.charts.proofs.Exactly.{refuses-exactly}
 use Rattle.charts.proofs.Rows.{is-false, says-outside}
 use Rattle.charts.proofs.Ranges.{kind-in}
 use Rattle.chart_file.specs.Groups.{Bytes}
-use Rattle.chart_file.specs.Format.{bytesOf, bytesFrom, fileOf}
+use Rattle.chart_file.specs.Format.{bytesOf, bytesFrom, countOf, fileOf}
 use Rattle.chart_file.specs.Reading.{due}
 use Rattle.chart_file.specs.Demand.{InRange, placeOf, EndsEqual, Begins, Due, ReadsExactly, ReadsFile, FileReads, ReadsOnce}
 use Rattle.chart_file.specs.Demand.{chart as Due·chart}
@@ -108,8 +108,10 @@ unfolding fileOf
 file-reads list n e =
     let q = sound-row list n (refuses-exactly list (Accepted n) .0 e) in
     let w = sound-begins list n (q .0) (q .1) (q .2) in
-    let b : Bytes (fileOf list) = (omega (arith, q .0, q .1), list-bytes 0 list (λ j h. rw zero-add (chart-ranges list n e j h))) in
-    (b, reads-exactly (fileOf list) b (due list (placeOf list)) .1 (Due·chart n list (q .0) w))
+    let b : Bytes (fileOf list) = bytes-append (countOf (length list / 5)) (bytesFrom 0 list) (bytes-spelled _ _) (list-bytes 0 list (λ j h. rw zero-add (chart-ranges list n e j h))) in
+    let c : length list / 5 ≡ n = omega (arith, q .0) in
+    let l : placeOf n list ≡ length (fileOf list) = rw c (sym (length-append (countOf n) (bytesFrom 0 list))) in
+    (b, reads-exactly (fileOf list) b (due list (placeOf n list)) .1 (Due·chart n list (q .0) w) ∙ ap (due list) l)
 
 pub reads-once : ReadsOnce
 reads-once s s′ b b′ list at at′ e e′ = reads-file s b list at e .0 ∙ sym (reads-file s′ b′ list at′ e′ .0)

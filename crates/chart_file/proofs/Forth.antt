@@ -2,28 +2,33 @@
 use mathlib.Core.Path.{_≡_, refl, sym, ap, _∙_, subst}
 use mathlib.Core.Bool.{Bool, true, false, cond}
 use mathlib.Core.List.{List, [], _∷_, _++_}
-use Prim.Native.Nat.{ℕ, zero, suc, _+_, _*_, _≤_, _<_}
+use Prim.Native.Nat.{ℕ, zero, suc, _+_, _*_, _^_, _≤_, _<_}
+use native.Mathlib.Nat.{zero-add}
 use native.Mathlib.Decide.{decLt}
 use native.Mathlib.Omega.{arith}
-use borrow.Author.Tests.{eqb-true, eqb-false, ltb-true, ltb-false, lt-leb}
+use borrow.Author.Tests.{eqb-true, eqb-false, ltb-true, ltb-false}
 use lib.Dec.{eqb, ltb}
 use lib.IntN.{ℤ}
 use lib.ListN.{length, getD, take, drop, length-append, drop-of-length-le}
-use lib.Seq.{take-all, take-append-le, drop-cons}
+use lib.Seq.{take-all, take-append-le, drop-cons, drop-append-seam}
 use Rattle.charts.specs.Chart.{most, numberAt, faultAt}
+use Rattle.chart_file.specs.declared.Groups.{Groups}
+use Rattle.chart_file.specs.declared.Groups.the-variants.{Value, Fault}
 use Rattle.chart_file.specs.declared.Number.{Number}
-use Rattle.chart_file.specs.Groups.{Bytes}
-use Rattle.chart_file.specs.Format.{bytesOf, bytesFrom}
-use Rattle.chart_file.specs.Reading.{Reading, due, stopped, standsAt, joined, more, numbers, withLength, piece, pieces, ended, readingOf}
-use Rattle.chart_file.specs.Demand.{InRange, Amiss, placeOf, EndsEqual, Begins, Due, count-due, count, number, extra, chart}
+use Rattle.chart_file.specs.Groups.{groupsAt, Bytes}
+use Rattle.chart_file.specs.Format.{groups, bytesOf, bytesFrom, countOf}
+use Rattle.chart_file.specs.Reading.{Reading, due, stopped, limited, countAt, counted, standsAt, joined, more, numbers, withLength, piece, pieces, ended, readingOf}
+use Rattle.chart_file.specs.Demand.{InRange, Amiss, placeOf, EndsEqual, Begins, Due, count-fault, count, number, extra, chart, InGroups, ends, unended, padded}
+use Rattle.chart_file.specs.Demand.{number as inside}
 use Rattle.chart_file.specs.Demand.{piece as Due·piece}
+use Rattle.chart_file.proofs.Marks.{groups-exactly}
 use Rattle.chart_file.proofs.OneNumber.{Stands, well, ill, number-row}
 use Rattle.chart_file.proofs.Begun.{place-one, rest-there, begins-more, fault-ends, ends-fault}
 
 module _ (s : List ℕ) (b : Bytes s) (n : ℕ) where
   -- c numbers of piece p are read after the numbers ys, or a row is met
   Reached : ℕ → ℕ → List ℤ → Reading → Type 0
-  Reached p c ys (due xs at) = (length xs ≡ 5 * p + c) × (take (5 * p) xs ≡ ys) × (at ≡ placeOf xs) × Begins s n p xs (drop at s)
+  Reached p c ys (due xs at) = (length xs ≡ 5 * p + c) × (take (5 * p) xs ≡ ys) × (at ≡ placeOf n xs) × Begins s n p xs (drop at s)
   Reached p c ys (stopped f q) = Due s (stopped f q)
 
   one-more : (p c : ℕ) (ys : List ℤ) → p < n → c < 5 → (r : Reading) → Reached p c ys r → Reached p (suc c) ys (more (standsAt s c) r)
@@ -34,7 +39,7 @@ module _ (s : List ℕ) (b : Bytes s) (n : ℕ) where
       go : (v : Number) → Stands s at c v → Reached p (suc c) ys (joined xs at v)
       go v (well d z rest r e) =
           let xs′ = xs ++ (z ∷ []) in
-          let at′ : at + length (bytesOf c z) ≡ placeOf xs′ = ap (λ (k : ℕ). k + length (bytesOf c z)) (w .2) ∙ sym (place-one p c xs z (w .0) q) in
+          let at′ : at + length (bytesOf c z) ≡ placeOf n xs′ = ap (λ (k : ℕ). k + length (bytesOf c z)) (w .2) ∙ sym (place-one n p c xs z (w .0) q) in
           let w′ : Begins s n p xs′ rest = begins-more s n p c xs z rest q (w .0) r (subst (Begins s n p xs) e (w .3)) in (
             omega (arith, length-append xs (z ∷ []), w .0),
             take-append-le (5 * p) xs (z ∷ []) (omega (arith, w .0)) ∙ w .1,
@@ -52,7 +57,7 @@ module _ (s : List ℕ) (b : Bytes s) (n : ℕ) where
 
   -- p pieces are read, or a row is met
   Got : ℕ → Reading → Type 0
-  Got p (due xs at) = (length xs ≡ 5 * p) × (at ≡ placeOf xs) × Begins s n p xs (drop at s)
+  Got p (due xs at) = (length xs ≡ 5 * p) × (at ≡ placeOf n xs) × Begins s n p xs (drop at s)
   Got p (stopped f q) = Due s (stopped f q)
 
   one-piece : (p : ℕ) → p < n → (r : Reading) → Got p r → Got (suc p) (piece s p r)
@@ -77,17 +82,17 @@ module _ (s : List ℕ) (b : Bytes s) (n : ℕ) where
           )
       test false ys k e v =
           let r : (c : ℕ) → c < 5 → InRange c (numberAt ys p c) = λ c l. v .3 .ranges p c l (omega (arith, v .0)) in
-          subst (λ (j : ℕ). Due s (stopped 6 j)) (ap placeOf (v .1) ∙ sym (w .1))
+          subst (λ (j : ℕ). Due s (stopped 6 j)) (ap (placeOf n) (v .1) ∙ sym (w .1))
           (Due·piece n p ys (drop k s) h (v .0) (v .3) (fault-ends ys p r (eqb-false (faultAt ys p) 0 e)))
 
       go : (r : Reading) → Reached p 5 xs r → Got (suc p) (withLength p at r)
       go (stopped f q) v = v
       go (due ys k) v = test (eqb (faultAt ys p) 0) ys k refl v
 
-  all-pieces : Begins s n 0 [] (drop 1 s) → (p : ℕ) → p ≤ n → Got p (pieces s p)
+  all-pieces : (from : ℕ) → from ≡ length (countOf n) → Begins s n 0 [] (drop from s) → (p : ℕ) → p ≤ n → Got p (pieces s from p)
   unfolding Got pieces bytesFrom
-  all-pieces w zero h = (omega arith, refl, w)
-  all-pieces w (suc p) h = one-piece p h (pieces s p) (all-pieces w p (omega arith))
+  all-pieces from e w zero h = (omega arith, omega arith, w)
+  all-pieces from e w (suc p) h = one-piece p h (pieces s from p) (all-pieces from e w p (omega arith))
 
   after-pieces : (r : Reading) → Got n r → Due s (ended (length s) r)
   unfolding Got ended
@@ -102,11 +107,24 @@ module _ (s : List ℕ) (b : Bytes s) (n : ℕ) where
           subst (λ (j : ℕ). Due s (due xs j)) (sym (w .1))
           (chart n xs (w .0) (subst (Begins s n n xs) (drop-of-length-le s (ltb-false at (length s) e)) (w .2)))
 
+  -- the count is read, and the pieces follow it
+  after-count : (rest : List ℕ) → s ≡ countOf n ++ rest → n ≤ most → (from : ℕ) → from ≡ length (countOf n) → Due s (ended (length s) (pieces s from n))
+  unfolding bytesFrom
+  after-count rest e h from f =
+      let d : drop from s ≡ rest = rw (f, e) (drop-append-seam (countOf n) rest) in
+      after-pieces (pieces s from n)
+      (all-pieces from f (record { file = rw d e; few = h; ranges = λ i c q l. absurd (omega arith); lengths = λ i q. absurd (omega arith) }) n (omega arith))
+
 pub due-met : (s : List ℕ) → Bytes s → Due s (readingOf s)
-unfolding readingOf bytesFrom
-due-met [] b = count-due refl
-due-met (n ∷ t) b = rw (lt-leb (suc (length t)) 0 (omega arith)) (go (ltb most n) refl)
+unfolding readingOf countAt limited counted
+due-met s b = go (groupsAt groups s 0) (groups-exactly groups s 0 (omega arith) b (groupsAt groups s 0) .0 refl)
   where
-    go : (x : Bool) → ltb most n ≡ x → Due (n ∷ t) (cond x (stopped 3 0) (ended (suc (length t)) (pieces (n ∷ t) n)))
-    go true e = count n t refl (ltb-true most n e)
-    go false e = after-pieces (n ∷ t) b n (pieces (n ∷ t) n) (all-pieces (n ∷ t) b n (record { file = refl; few = ltb-false most n e; ranges = λ i c q l. absurd (omega arith); lengths = λ i q. absurd (omega arith) }) n (omega arith))
+    test : (x : Bool) (n : ℕ) (rest : List ℕ) → ltb most n ≡ x → n < 128 ^ groups → s ≡ countOf n ++ rest → Due s (counted s (cond x (Fault 3) (Value n (0 + length (countOf n)))))
+    test true n rest e m h = count n rest m h (ltb-true most n e)
+    test false n rest e m h = after-count s b n rest h (ltb-false most n e) (0 + length (countOf n)) (zero-add (length (countOf n)))
+
+    go : (g : Groups) → InGroups groups s 0 g → Due s (counted s (limited g))
+    go g (inside n rest m h) = test (ltb most n) n rest refl m h
+    go g (ends n h l m) = count-fault 1 (ends n h l m)
+    go g (unended m) = count-fault 2 (unended m)
+    go g (padded n p h l m z) = count-fault 2 (padded n p h l m z)

@@ -1,6 +1,6 @@
--- "The longest file has 833 bytes": 13 a piece and the count, and a full chart of the widest coordinates has as many.
+-- "The longest file has 2,602 bytes": 13 a piece and two for the count, and a full chart of the widest coordinates has as many.
 use mathlib.Core.Path.{_≡_, refl, ap, _∙_}
-use mathlib.Core.List.{List, [], _∷_}
+use mathlib.Core.List.{List, [], _∷_, _++_}
 use Prim.Native.Nat.{ℕ, zero, suc, _*_, _%_, _≤_}
 use native.Mathlib.Omega.{arith}
 use lib.IntN.{ℤ, pos, negsuc}
@@ -10,10 +10,10 @@ use Rattle.charts.specs.Chart.{most, numberAt, faultAt, pieces, verdictOf}
 use Rattle.charts.specs.declared.Verdict.the-variants.{Accepted}
 use Rattle.chart_file.specs.Groups.{spelled}
 use Rattle.chart_file.specs.Coordinate.{stored}
-use Rattle.chart_file.specs.Format.{groups, bytesOf, bytesFrom, fileOf, longest}
+use Rattle.chart_file.specs.Format.{groups, bytesOf, bytesFrom, countOf, fileOf, longest}
 use Rattle.chart_file.specs.Reading.{due}
 use Rattle.chart_file.specs.Demand.{NoLonger, SomeAsLong}
-use Rattle.chart_file.proofs.Spelling.{length-spelled}
+use Rattle.chart_file.proofs.Spelling.{length-spelled, spelled-stays}
 use Rattle.chart_file.proofs.Files.{reads-exactly, chart-row, file-reads}
 
 number-length : (c : ℕ) (v : ℤ) → length (bytesOf c v) ≤ groups
@@ -47,10 +47,22 @@ list-length (suc n) i (k ∷ a ∷ b ∷ c ∷ d ∷ xs) z l =
       list-length n (suc (suc (suc (suc (suc i))))) xs (omega arith) (omega arith),
     ))
 
+-- a chart's count takes two groups at most
+pub count-length : (n : ℕ) → n ≤ most → length (countOf n) ≤ 2
+count-length n h = rw (spelled-stays 2 groups n (omega arith) (omega arith) (omega arith)) (length-spelled 2 n)
+
 pub no-longer : NoLonger
 no-longer s b list at e =
     let q = chart-row s list at (reads-exactly s b (due list at) .0 e) in
-    omega (arith, q .2 .few, ap length (q .2 .file), length-append (bytesFrom 0 list) [], list-length (q .0) 0 list (omega arith) (q .1))
+    omega (
+      arith,
+      q .2 .few,
+      ap length (q .2 .file),
+      length-append (countOf (q .0)) (bytesFrom 0 list ++ []),
+      length-append (bytesFrom 0 list) [],
+      count-length (q .0) (q .2 .few),
+      list-length (q .0) 0 list (omega arith) (q .1),
+    )
 
 -- so is the file of a chart that the calls on lists accept
 pub file-no-longer : (list : List ℤ) (n : ℕ) → verdictOf list ≡ Accepted n → length (fileOf list) ≤ longest

@@ -62,7 +62,7 @@ and-both : (a b : Bool) → (a && b) ≡ true → (a ≡ true) × (b ≡ true)
 and-both true b e = (refl, e)
 and-both false b e = absurd (false≢true e)
 
-and-neither : (a b : Bool) → (a && b) ≡ false → a ≡ true → b ≡ true → ⊥
+pub and-neither : (a b : Bool) → (a && b) ≡ false → a ≡ true → b ≡ true → ⊥
 and-neither a b e p q = false≢true (sym e ∙ ap (λ (x : Bool). x && b) p ∙ q)
 
 module _ (k : ℕ) (s : List ℕ) (at : ℕ) where

@@ -8,6 +8,7 @@ use borrow.Author.Tests.{le-leb, lt-leb, lt-ltb, le-ltb}
 use lib.Dec.{leb, ltb, eqb}
 use lib.IntN.{pos, negℤ}
 use lib.ListN.{length, getD, take, drop}
+use Rattle.charts.specs.Chart.{most}
 use Rattle.charts.specs.Fault.{range, outside}
 use Rattle.chart_file.specs.declared.Groups.{Groups}
 use Rattle.chart_file.specs.declared.Groups.the-variants.{Value, Fault}
@@ -15,8 +16,21 @@ use Rattle.chart_file.specs.declared.Number.the-variants.{Read, Refused}
 use Rattle.chart_file.specs.Groups.{value, marked, groupsAt}
 use Rattle.chart_file.specs.Coordinate.{signedOf}
 use Rattle.chart_file.specs.Format.{groups}
-use Rattle.chart_file.specs.Reading.{kindAt, turned, coordinateAt}
+use Rattle.chart_file.specs.Reading.{limited, countAt, kindAt, turned, coordinateAt}
 use Rattle.chart_file.proofs.Turned.{outside-stored}
+
+module _ (s : List ℕ) where
+  pub count-refused : (f : ℕ) → groupsAt groups s 0 ≡ Fault f → countAt s ≡ Fault f
+  unfolding countAt limited
+  count-refused f e = rw e
+
+  pub count-many : (n next : ℕ) → groupsAt groups s 0 ≡ Value n next → most < n → countAt s ≡ Fault 3
+  unfolding countAt limited
+  count-many n next e h = rw (e, lt-ltb most n h)
+
+  pub count-few : (n next : ℕ) → groupsAt groups s 0 ≡ Value n next → n ≤ most → countAt s ≡ Value n next
+  unfolding countAt limited
+  count-few n next e h = rw (e, le-ltb most n h)
 
 module _ (s : List ℕ) (at : ℕ) where
   pub kind-due : length s ≤ at → kindAt s at ≡ Refused 1

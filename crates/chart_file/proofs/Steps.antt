@@ -32,28 +32,28 @@ numbers-stay s c (suc j) r f q e h = elim (decLt c (suc j)) [
 
 -- ---- the pieces
 
-module _ (s : List ℕ) (p : ℕ) (xs : List ℤ) (start : ℕ) (b : pieces s p ≡ due xs start) where
-  pub piece-refused : (f q : ℕ) → numbers s 5 (pieces s p) ≡ stopped f q → pieces s (suc p) ≡ stopped f q
+module _ (s : List ℕ) (from p : ℕ) (xs : List ℤ) (start : ℕ) (b : pieces s from p ≡ due xs start) where
+  pub piece-refused : (f q : ℕ) → numbers s 5 (pieces s from p) ≡ stopped f q → pieces s from (suc p) ≡ stopped f q
   unfolding pieces piece withLength
   piece-refused f q e = rw (b, rw b at e)
 
-  pub piece-short : (ys : List ℤ) (at : ℕ) → numbers s 5 (pieces s p) ≡ due ys at → (faultAt ys p ≡ 0 → ⊥) → pieces s (suc p) ≡ stopped 6 start
+  pub piece-short : (ys : List ℤ) (at : ℕ) → numbers s 5 (pieces s from p) ≡ due ys at → (faultAt ys p ≡ 0 → ⊥) → pieces s from (suc p) ≡ stopped 6 start
   unfolding pieces piece withLength
   piece-short ys at e z = rw (b, rw b at e, ne-eqb (faultAt ys p) 0 z)
 
-  pub piece-read : (ys : List ℤ) (at : ℕ) → numbers s 5 (pieces s p) ≡ due ys at → faultAt ys p ≡ 0 → pieces s (suc p) ≡ due ys at
+  pub piece-read : (ys : List ℤ) (at : ℕ) → numbers s 5 (pieces s from p) ≡ due ys at → faultAt ys p ≡ 0 → pieces s from (suc p) ≡ due ys at
   unfolding pieces piece withLength
   piece-read ys at e z = rw (b, rw b at e, eq-eqb (faultAt ys p) 0 z)
 
-pub pieces-stay : (s : List ℕ) (m n f q : ℕ) → pieces s m ≡ stopped f q → m ≤ n → pieces s n ≡ stopped f q
+pub pieces-stay : (s : List ℕ) (from m n f q : ℕ) → pieces s from m ≡ stopped f q → m ≤ n → pieces s from n ≡ stopped f q
 unfolding pieces piece
-pieces-stay s m zero f q e h = let z : 0 ≡ m = omega arith in ap (pieces s) z ∙ e
-pieces-stay s m (suc n) f q e h = elim (decLt m (suc n)) [
-  | yes l ↦ rw (pieces-stay s m n f q e (omega arith))
-  | no l ↦ let z : suc n ≡ m = omega arith in ap (pieces s) z ∙ e
+pieces-stay s from m zero f q e h = let z : 0 ≡ m = omega arith in ap (pieces s from) z ∙ e
+pieces-stay s from m (suc n) f q e h = elim (decLt m (suc n)) [
+  | yes l ↦ rw (pieces-stay s from m n f q e (omega arith))
+  | no l ↦ let z : suc n ≡ m = omega arith in ap (pieces s from) z ∙ e
 ]
 
 -- number c of piece p is refused, and the file with it
-pub refused-stays : (s : List ℕ) (p n c f start : ℕ) (xs : List ℤ) (at : ℕ) (ys : List ℤ) → pieces s p ≡ due xs start → numbers s c (pieces s p) ≡ due ys at → standsAt s c at ≡ Refused f → c < 5 → p < n → pieces s n ≡ stopped f at
-refused-stays s p n c f start xs at ys b e r h l =
-    pieces-stay s (suc p) n f at (piece-refused s p xs start b f at (numbers-stay s (suc c) 5 (pieces s p) f at (number-refused s c (pieces s p) ys at f e r) h)) l
+pub refused-stays : (s : List ℕ) (from p n c f start : ℕ) (xs : List ℤ) (at : ℕ) (ys : List ℤ) → pieces s from p ≡ due xs start → numbers s c (pieces s from p) ≡ due ys at → standsAt s c at ≡ Refused f → c < 5 → p < n → pieces s from n ≡ stopped f at
+refused-stays s from p n c f start xs at ys b e r h l =
+    pieces-stay s from (suc p) n f at (piece-refused s from p xs start b f at (numbers-stay s (suc c) 5 (pieces s from p) f at (number-refused s c (pieces s from p) ys at f e r) h)) l

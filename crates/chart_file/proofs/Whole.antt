@@ -1,17 +1,23 @@
 -- The whole file: which reading the tests before and after the pieces lead to, and what is answered for it.
 use mathlib.Core.Path.{_≡_, refl, sym, ap, _∙_}
+use mathlib.Core.Bool.{Bool, true, false, cond}
 use mathlib.Core.List.{List, _++_}
 use Prim.Native.Nat.{ℕ, _*_, _≤_, _<_}
 use native.Mathlib.Omega.{arith}
-use borrow.Author.Tests.{le-leb, lt-leb, lt-ltb, le-ltb}
+use borrow.Author.Tests.{ltb-false, lt-ltb, le-ltb}
+use lib.Dec.{ltb}
 use lib.IntN.{ℤ}
-use lib.ListN.{length, getD, take, drop}
+use lib.ListN.{length, take, drop}
 use Rattle.charts.specs.Chart.{most}
 use Rattle.charts.specs.declared.Answer.{Answer}
 use Rattle.charts.specs.Answer.{doneWith, refusedWith}
+use Rattle.chart_file.specs.declared.Groups.{Groups}
+use Rattle.chart_file.specs.declared.Groups.the-variants.{Value, Fault}
 use Rattle.chart_file.specs.declared.Stop.{Stop}
+use Rattle.chart_file.specs.Groups.{groupsAt}
+use Rattle.chart_file.specs.Format.{groups}
 use Rattle.chart_file.specs.Demand.{LentExactly}
-use Rattle.chart_file.specs.Reading.{Reading, due, stopped, pieces, ended, readingOf, lentReading, answerOf, contentOf, Reads, Left}
+use Rattle.chart_file.specs.Reading.{Reading, due, stopped, limited, countAt, counted, pieces, ended, readingOf, lentReading, answerOf, contentOf, Reads, Left}
 
 -- ---- before the pieces
 
@@ -20,17 +26,26 @@ module _ (s : List ℕ) (lent : ℕ) where
   unfolding lentReading
   too-little h = rw (lt-ltb _ _ h)
 
-  pub no-count : 5 * most ≤ lent → length s ≡ 0 → lentReading lent s ≡ stopped 1 0
-  unfolding lentReading readingOf
-  no-count h e = rw (le-ltb _ _ h, le-leb (length s) 0 (omega arith))
+  pub no-count : (f : ℕ) → 5 * most ≤ lent → countAt s ≡ Fault f → lentReading lent s ≡ stopped f 0
+  unfolding lentReading readingOf counted
+  no-count f h e = rw (le-ltb _ _ h, e)
 
-  pub too-many : 5 * most ≤ lent → 0 < length s → most < getD s 0 0 → lentReading lent s ≡ stopped 3 0
-  unfolding lentReading readingOf
-  too-many h l g = rw (le-ltb _ _ h, lt-leb (length s) 0 l, lt-ltb most (getD s 0 0) g)
+  pub some-pieces : (n next : ℕ) → 5 * most ≤ lent → countAt s ≡ Value n next → lentReading lent s ≡ ended (length s) (pieces s next n)
+  unfolding lentReading readingOf counted
+  some-pieces n next h e = rw (le-ltb _ _ h, e)
 
-  pub some-pieces : 5 * most ≤ lent → 0 < length s → getD s 0 0 ≤ most → lentReading lent s ≡ ended (length s) (pieces s (getD s 0 0))
-  unfolding lentReading readingOf
-  some-pieces h l g = rw (le-ltb _ _ h, lt-leb (length s) 0 l, le-ltb most (getD s 0 0) g)
+-- a count that is read is a chart's
+pub count-most : (s : List ℕ) (n next : ℕ) → countAt s ≡ Value n next → n ≤ most
+unfolding countAt limited
+count-most s n next = go (groupsAt groups s 0)
+  where
+    test : (x : Bool) (m k : ℕ) → ltb most m ≡ x → cond x (Fault 3) (Value m k) ≡ Value n next → n ≤ most
+    test true m k e h = let z : _≡_ {A = ℕ} 0 1 = cc in absurd (omega arith)
+    test false m k e h = let z : m ≡ n = cc in omega (arith, ltb-false most m e)
+
+    go : (g : Groups) → limited g ≡ Value n next → n ≤ most
+    go (Value m k) h = test (ltb most m) m k refl h
+    go (Fault f) h = let z : _≡_ {A = ℕ} 0 1 = cc in absurd (omega arith)
 
 -- ---- after them
 

@@ -14,7 +14,7 @@ use Rattle.chart_file.specs.declared.Groups.{Groups}
 use Rattle.chart_file.specs.declared.Groups.the-variants.{Value, Fault}
 use Rattle.chart_file.specs.Groups.{value, spelled, groupsAt, Bytes, Canonical}
 use Rattle.chart_file.specs.Coordinate.{stored, signedOf}
-use Rattle.chart_file.specs.Format.{groups, bytesOf, bytesFrom, fileOf, longest}
+use Rattle.chart_file.specs.Format.{groups, bytesOf, bytesFrom, countOf, fileOf, longest}
 use Rattle.chart_file.specs.Reading.{Reading, due, stopped, readingOf, lentReading}
 
 -- ---- groups of seven bits, at most k
@@ -73,9 +73,9 @@ pub data Amiss (t : List ℕ) (at : ℕ) : ℕ → ℕ → Type 0 where
   -- "5: coordinate out of range"
   coordinate : (c : ℕ) (v : ℤ) (rest : List ℕ) → stored v < 128 ^ groups → t ≡ bytesOf (suc c) v ++ rest → Off v → Amiss t at (suc c) 5
 
--- the place after the count and the numbers xs
-abbrev pub placeOf : List ℤ → ℕ
-placeOf xs = suc (length (bytesFrom 0 xs))
+-- the place after the count n and the numbers xs
+abbrev pub placeOf : ℕ → List ℤ → ℕ
+placeOf n xs = length (countOf n) + length (bytesFrom 0 xs)
 
 -- "6: both ends of a piece equal"
 abbrev pub EndsEqual : List ℤ → ℕ → Type 0
@@ -83,31 +83,31 @@ EndsEqual xs p = (numberAt xs p 1 ≡ numberAt xs p 3) × (numberAt xs p 2 ≡ n
 
 -- the file begins with a count n and numbers xs in range, of which the first p pieces have length
 pub record Begins (s : List ℕ) (n p : ℕ) (xs : List ℤ) (rest : List ℕ) : Type 0 where
-  pub file : s ≡ n ∷ (bytesFrom 0 xs ++ rest)
+  pub file : s ≡ countOf n ++ (bytesFrom 0 xs ++ rest)
   pub few : n ≤ most
   pub ranges : (i c : ℕ) → c < 5 → 5 * i + c < length xs → InRange c (numberAt xs i c)
   pub lengths : (i : ℕ) → i < p → ¬ EndsEqual xs i
 
 -- the reading that is due to the file
 pub data Due (s : List ℕ) : Reading → Type 0 where
-  -- 1 of the count
-  count-due : s ≡ [] → Due s (stopped 1 0)
-  -- "3: count above 64"
-  count : (n : ℕ) (rest : List ℕ) → s ≡ n ∷ rest → most < n → Due s (stopped 3 0)
+  -- 1 and 2 of the count
+  count-fault : (f : ℕ) → InGroups groups s 0 (Fault f) → Due s (stopped f 0)
+  -- "3: count above 200"
+  count : (n : ℕ) (rest : List ℕ) → n < 128 ^ groups → s ≡ countOf n ++ rest → most < n → Due s (stopped 3 0)
   -- 1, 2, 4 and 5 of number c of piece p: "The place is the offset at which the number starts"
   number : (n p c f : ℕ) (xs : List ℤ) (rest : List ℕ) → p < n → c < 5 → length xs ≡ 5 * p + c → Begins s n p xs rest
-      → Amiss rest (placeOf xs) c f → Due s (stopped f (placeOf xs))
+      → Amiss rest (placeOf n xs) c f → Due s (stopped f (placeOf n xs))
   -- 6 of piece p: "where the kind starts"
   piece : (n p : ℕ) (xs : List ℤ) (rest : List ℕ) → p < n → length xs ≡ 5 * p + 5 → Begins s n p xs rest
-      → EndsEqual xs p → Due s (stopped 6 (placeOf (take (5 * p) xs)))
+      → EndsEqual xs p → Due s (stopped 6 (placeOf n (take (5 * p) xs)))
   -- "7: bytes after the last piece": "the first extra byte"
-  extra : (n : ℕ) (xs : List ℤ) (b : ℕ) (rest : List ℕ) → length xs ≡ 5 * n → Begins s n n xs (b ∷ rest) → Due s (stopped 7 (placeOf xs))
-  chart : (n : ℕ) (xs : List ℤ) → length xs ≡ 5 * n → Begins s n n xs [] → Due s (due xs (placeOf xs))
+  extra : (n : ℕ) (xs : List ℤ) (b : ℕ) (rest : List ℕ) → length xs ≡ 5 * n → Begins s n n xs (b ∷ rest) → Due s (stopped 7 (placeOf n xs))
+  chart : (n : ℕ) (xs : List ℤ) → length xs ≡ 5 * n → Begins s n n xs [] → Due s (due xs (placeOf n xs))
 
 abbrev pub ReadsExactly : Type 0
 ReadsExactly = (s : List ℕ) → Bytes s → (r : Reading) → (readingOf s ≡ r) ↔ Due s r
 
--- with so many numbers lent: "8 first (under 320 numbers lent)"
+-- with so many numbers lent: "8 first (under 1,000 numbers lent)"
 abbrev pub LentExactly : Type 0
 LentExactly = (lent : ℕ) (s : List ℕ) → (lent < 5 * most → lentReading lent s ≡ stopped 8 0) × (5 * most ≤ lent → lentReading lent s ≡ readingOf s)
 
@@ -125,7 +125,7 @@ FileReads = (list : List ℤ) (n : ℕ) → verdictOf list ≡ Accepted n → By
 abbrev pub ReadsOnce : Type 0
 ReadsOnce = (s s′ : List ℕ) → Bytes s → Bytes s′ → (list : List ℤ) (at at′ : ℕ) → readingOf s ≡ due list at → readingOf s′ ≡ due list at′ → s ≡ s′
 
--- "The longest file has 833 bytes."
+-- "The longest file has 2,602 bytes."
 abbrev pub NoLonger : Type 0
 NoLonger = (s : List ℕ) → Bytes s → (list : List ℤ) (at : ℕ) → readingOf s ≡ due list at → length s ≤ longest
 

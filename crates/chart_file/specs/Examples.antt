@@ -3,7 +3,7 @@ use mathlib.Core.Path.{_≡_}
 use mathlib.Core.List.{[], _∷_}
 use lib.IntN.{pos, negsuc}
 use Rattle.chart_file.specs.declared.Number.the-variants.{Read, Refused}
-use Rattle.chart_file.specs.Format.{bytesOf}
+use Rattle.chart_file.specs.Format.{bytesOf, countOf}
 use Rattle.chart_file.specs.Reading.{due, stopped, coordinateAt, readingOf}
 
 pub record Examples : Type 0 where
@@ -30,6 +30,14 @@ pub record Examples : Type 0 where
   pub third-marked : coordinateAt (0x80 ∷ 0x80 ∷ 0x80 ∷ []) 0 ≡ Refused 2
   -- "6 after the four coordinates", "where the kind starts"
   pub no-length : readingOf (0x01 ∷ 0x03 ∷ 0x02 ∷ 0x02 ∷ 0x02 ∷ 0x02 ∷ []) ≡ stopped 6 1
-  -- "Counts 64 and 65"
-  pub count-64 : readingOf (64 ∷ []) ≡ stopped 1 1
-  pub count-65 : readingOf (65 ∷ []) ≡ stopped 3 0
+  -- "Counts 200 and 201", which are C8 01 and C9 01: after the first a piece is due
+  pub count-200 : readingOf (0xc8 ∷ 0x01 ∷ []) ≡ stopped 1 2
+  pub count-201 : readingOf (0xc9 ∷ 0x01 ∷ []) ≡ stopped 3 0
+  -- "two groups from 128 on": 127 is 7F, and 128 is 80 01
+  pub count-127 : countOf 127 ≡ 0x7f ∷ []
+  pub count-128 : countOf 128 ≡ 0x80 ∷ 0x01 ∷ []
+  -- "1 and 2 apply" to the count; "a count of three groups is read, then refused with 3": 16,384 is 80 80 01
+  pub count-cut : readingOf (0x80 ∷ []) ≡ stopped 1 0
+  pub count-padded : readingOf (0x80 ∷ 0x00 ∷ []) ≡ stopped 2 0
+  pub count-unended : readingOf (0x80 ∷ 0x80 ∷ 0x80 ∷ []) ≡ stopped 2 0
+  pub count-16384 : readingOf (0x80 ∷ 0x80 ∷ 0x01 ∷ []) ≡ stopped 3 0

@@ -28,7 +28,15 @@ kindAt s at =
     (cond (outside (pos 0) (pos 3) (pos (getD s at 0))) (Refused 4)
     (Read (pos (getD s at 0)) (at + 1)))
 
--- a coordinate: "1 or 2 of a number before its 3, 4 or 5"
+-- the count, with which a file begins: "1 or 2 of a number before its 3, 4 or 5"
+unfoldable pub limited : Groups → Groups
+limited (Value n next) = cond (ltb most n) (Fault 3) (Value n next)
+limited (Fault f) = Fault f
+
+unfoldable pub countAt : List ℕ → Groups
+countAt s = limited (groupsAt groups s 0)
+
+-- a coordinate
 unfoldable pub turned : Groups → Number
 turned (Value u next) = cond (outside (negℤ range) range (signedOf u)) (Refused 5) (Read (signedOf u) next)
 turned (Fault f) = Refused f
@@ -71,10 +79,10 @@ unfoldable pub piece : List ℕ → ℕ → Reading → Reading
 piece s p (due xs at) = withLength p at (numbers s 5 (due xs at))
 piece s p (stopped f q) = stopped f q
 
--- the first n pieces, which follow the count
-unfoldable pub pieces : List ℕ → ℕ → Reading
-pieces s zero = due [] 1
-pieces s (suc p) = piece s p (pieces s p)
+-- the first n pieces, from a place on
+unfoldable pub pieces : List ℕ → ℕ → ℕ → Reading
+pieces s start zero = due [] start
+pieces s start (suc p) = piece s p (pieces s start p)
 
 -- ---- the file
 
@@ -83,13 +91,15 @@ unfoldable pub ended : ℕ → Reading → Reading
 ended size (due xs at) = cond (ltb at size) (stopped 7 at) (due xs at)
 ended size (stopped f p) = stopped f p
 
-unfoldable pub readingOf : List ℕ → Reading
-readingOf s =
-    cond (leb (length s) 0) (stopped 1 0)
-    (cond (ltb most (getD s 0 0)) (stopped 3 0)
-    (ended (length s) (pieces s (getD s 0 0))))
+-- the pieces follow the count; a refusal of the count has its place, 0
+unfoldable pub counted : List ℕ → Groups → Reading
+counted s (Value n next) = ended (length s) (pieces s next n)
+counted s (Fault f) = stopped f 0
 
--- "8 first (under 320 numbers lent)"
+unfoldable pub readingOf : List ℕ → Reading
+readingOf s = counted s (countAt s)
+
+-- "8 first (under 1,000 numbers lent)"
 unfoldable pub lentReading : ℕ → List ℕ → Reading
 lentReading lent s = cond (ltb lent (5 * most)) (stopped 8 0) (readingOf s)
 

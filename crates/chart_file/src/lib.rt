@@ -6,7 +6,7 @@ ghost use lib.ListN.{length, take, drop};
 ghost use Rattle.chart_file.specs.Groups.{groupsAt};
 ghost use Rattle.chart_file.specs.Coordinate.{signedOf};
 ghost use Rattle.chart_file.specs.Format.{groups};
-ghost use Rattle.chart_file.specs.Reading.{kindAt, coordinateAt, Left, Reads};
+ghost use Rattle.chart_file.specs.Reading.{countAt, kindAt, coordinateAt, Left, Reads};
 ghost use Rattle.chart_file.specs.Reading.{pieces as Reading·pieces};
 ghost use Rattle.charts.specs.Chart.{most, faultAt};
 use charts::Answer;
@@ -18,8 +18,8 @@ pub const NUMBERS: usize = 5 * MOST;
 // A number in at most so many groups of seven bits.
 const GROUPS: usize = 3;
 
-// The longest file: the count, and of each piece the kind and four coordinates.
-pub const LONGEST: usize = 1 + (1 + 4 * GROUPS) * MOST;
+// The longest file: the count in two groups, and of each piece the kind and four coordinates.
+pub const LONGEST: usize = 2 + (1 + 4 * GROUPS) * MOST;
 
 // A coordinate in range is stored as at most twice charts::RANGE.
 const WIDEST: u32 = 2 * (charts::RANGE as u32);
@@ -65,6 +65,21 @@ fn groups_at(file: &[u8], at: usize) -> Groups
         i += 1;
     }
     Groups::Fault(2)
+}
+
+// The count with which a file begins, and the place after it. Neither a padded count is taken, nor one above MOST.
+fn count_at(file: &[u8]) -> Groups
+    ensures { λ r. ⌜ r ≡ countAt (now (file .entry)) ⌝ }
+{
+    match groups_at(file, 0) {
+        Groups::Fault(f) => Groups::Fault(f),
+        Groups::Value(n, next) => {
+            if (MOST as u32) < n {
+                return Groups::Fault(3);
+            }
+            Groups::Value(n, next)
+        }
+    }
 }
 
 fn signed(v: u32) -> i32
@@ -122,12 +137,12 @@ struct Stop {
     place: usize,
 }
 
-// Reads pieces, which follow the count, into `list`.
-fn pieces(file: &[u8], count: usize, list: &mut [i32; NUMBERS]) -> Stop
+// Reads pieces, which follow the count from its `next` place on, into `list`.
+fn pieces(file: &[u8], next: usize, count: usize, list: &mut [i32; NUMBERS]) -> Stop
     requires { ⌜ (count ≤ most) × (length (now list) ≡ 5 * most) ⌝ }
-    ensures { λ r. ⌜ Left count (Reading·pieces (now (file .entry)) count) r (now (list .exit)) ⌝ }
+    ensures { λ r. ⌜ Left count (Reading·pieces (now (file .entry)) next count) r (now (list .exit)) ⌝ }
 {
-    let mut at = 1;
+    let mut at = next;
     let mut fault: u8 = 0;
     'file: for p in 0..count {
         let start = at;
@@ -183,23 +198,22 @@ pub fn read(file: &[u8], list: &mut [i32]) -> Answer
     if list.len() < NUMBERS {
         return charts::refused(8, 0);
     }
-    if file.len() == 0 {
-        return charts::refused(1, 0);
+    match count_at(file) {
+        Groups::Fault(f) => charts::refused(f, 0),
+        Groups::Value(n, next) => {
+            let count = n as usize;
+            let mut numbers = [0i32; NUMBERS];
+            let stop = pieces(file, next, count, &mut numbers);
+            let number = stop.number;
+            let place = stop.place;
+            if number != 0 {
+                return charts::refused(number, place);
+            }
+            if place < file.len() {
+                return charts::refused(7, place);
+            }
+            put(&numbers, 5 * count, list);
+            charts::done(count)
+        }
     }
-    let count = file[0] as usize;
-    if MOST < count {
-        return charts::refused(3, 0);
-    }
-    let mut numbers = [0i32; NUMBERS];
-    let stop = pieces(file, count, &mut numbers);
-    let number = stop.number;
-    let place = stop.place;
-    if number != 0 {
-        return charts::refused(number, place);
-    }
-    if place < file.len() {
-        return charts::refused(7, place);
-    }
-    put(&numbers, 5 * count, list);
-    charts::done(count)
 }

@@ -22,8 +22,8 @@ pub record Examples : Type 0 where
   pub crossing : fileOf (pos 3 ∷ pos 0 ∷ pos 0 ∷ pos 4 ∷ pos 4 ∷ pos 3 ∷ pos 0 ∷ pos 4 ∷ pos 4 ∷ pos 0 ∷ [])
       ≡ 0x02 ∷ 0x03 ∷ 0x00 ∷ 0x00 ∷ 0x08 ∷ 0x08 ∷ 0x03 ∷ 0x00 ∷ 0x08 ∷ 0x08 ∷ 0x00 ∷ []
   -- the empty chart, with room for the longest file and with one byte less
-  pub empty : writingOf [] 833 ≡ Accepted 0
-  pub no-room : writingOf [] 832 ≡ Refused 8 0
+  pub empty : writingOf [] 2602 ≡ Accepted 0
+  pub no-room : writingOf [] 2601 ≡ Refused 8 0
   -- a fault of the list comes before the room
   pub fault-first : writingOf (pos 4 ∷ pos 0 ∷ pos 0 ∷ pos 0 ∷ negsuc 0 ∷ []) 0 ≡ Refused 4 0
 

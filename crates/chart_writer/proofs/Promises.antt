@@ -5,7 +5,7 @@ use Prim.Native.Nat.{ℕ, suc, _+_, _*_, _/_, _%_, _^_, _≤_, _<_}
 use native.Mathlib.Decide.{decLt}
 use native.Mathlib.Omega.{arith}
 use lib.IntN.{ℤ, pos}
-use lib.ListN.{length, getD, take, drop, take-append-drop}
+use lib.ListN.{length, getD, take, drop, length-append, take-append-drop}
 use lib.Seq.{length-take-le, take-at, take-append-seam, drop-append-seam}
 use Rattle.charts.specs.Chart.{most, verdictOf}
 use Rattle.charts.specs.Answer.{doneWith, refusedWith}
@@ -16,7 +16,7 @@ use Rattle.charts.specs.declared.Verdict.the-variants.{Accepted, Refused}
 use Rattle.charts.proofs.Lent.{room-accepted, room-refuses-exactly}
 use Rattle.chart_file.specs.Groups.{spelled, Bytes}
 use Rattle.chart_file.specs.Coordinate.{stored}
-use Rattle.chart_file.specs.Format.{groups, bytesOf, bytesFrom, fileOf, longest}
+use Rattle.chart_file.specs.Format.{groups, bytesOf, bytesFrom, countOf, fileOf, longest}
 use Rattle.chart_file.specs.Reading.{Reading, due, stopped, readingOf, lentReading, answerOf, contentOf, Reads}
 use Rattle.chart_file.specs.Demand.{placeOf}
 use Rattle.chart_file.proofs.Spelling.{canonical-spelled, value-spelled, fewest}
@@ -25,7 +25,7 @@ use Rattle.chart_file.proofs.Files.{reads-file, file-reads}
 use Rattle.chart_file.proofs.Refusals.{refused-few}
 use Rattle.chart_file.proofs.Whole.{lent-exactly}
 use Rattle.chart_writer.specs.Writing.{writingOf, Writes}
-use Rattle.chart_writer.specs.Demand.{WritingDue, RefusesExactly, RefusesWhole, DoneExactly, WritesFewest, ReadsWritten, WritesRead}
+use Rattle.chart_writer.specs.Demand.{WritingDue, RefusesExactly, RefusesWhole, DoneExactly, InFewest, CountsFewest, WritesFewest, ReadsWritten, WritesRead}
 use Rattle.chart_writer.proofs.Numbers.{one-of, coordinate-bytes, coordinate-small}
 use Rattle.chart_writer.proofs.Outcomes.{accepted-fives, goes}
 
@@ -114,13 +114,33 @@ done-exactly list lent r after w n d =
 
 -- number i stands at its place
 there : (list : List ℤ) (i : ℕ) (rest : List ℕ) → i < length list
-    → drop (placeOf (take i list)) (fileOf list ++ rest) ≡ bytesOf (i % 5) (getD list i (pos 0)) ++ (bytesFrom (suc i) (drop (suc i) list) ++ rest)
+    → drop (placeOf (length list / 5) (take i list)) (fileOf list ++ rest) ≡ bytesOf (i % 5) (getD list i (pos 0)) ++ (bytesFrom (suc i) (drop (suc i) list) ++ rest)
 unfolding fileOf
 there list i rest h =
     let l : 0 + length (take i list) ≡ i = omega (arith, length-take-le i list (omega arith)) in
     let e : bytesFrom 0 list ≡ bytesFrom 0 (take i list) ++ (bytesOf (i % 5) (getD list i (pos 0)) ++ bytesFrom (suc i) (drop (suc i) list)) =
     ap (bytesFrom 0) (sym (take-append-drop i list)) ∙ bytes-append 0 (take i list) (drop i list) ∙ rw (l, one-of list i h) in
-    rw (e, append-assoc) (drop-append-seam (bytesFrom 0 (take i list)) _ ∙ simp append-assoc)
+    let front : List ℕ = countOf (length list / 5) ++ bytesFrom 0 (take i list) in
+    let p : placeOf (length list / 5) (take i list) ≡ length front = sym (length-append (countOf (length list / 5)) (bytesFrom 0 (take i list))) in
+    rw (p, e, ← append-assoc) (ap (drop (length front)) (append-assoc front _ rest) ∙ drop-append-seam front _ ∙ simp append-assoc)
+
+-- a number in its groups, whatever follows
+in-fewest : (u : ℕ) (t rest : List ℕ) → u < 128 ^ groups → t ≡ spelled groups u ++ rest → InFewest u t
+in-fewest u t rest b e = record {
+  own = spelled groups u;
+  rest = rest;
+  there = e;
+  canonical = canonical-spelled groups u (omega arith) b;
+  stands = value-spelled groups u b;
+  fewest = λ gs p q. subst (λ (x : ℕ). length (spelled groups x) ≤ length gs) q (fewest groups gs p);
+}
+
+pub counts-fewest : CountsFewest
+unfolding fileOf
+counts-fewest list lent r after w z =
+    let d = is-done list lent r after w z in
+    let g = goes list lent (d .n) (d .ahead) in
+    in-fewest (length list / 5) after (bytesFrom 0 list ++ drop (length (fileOf list)) lent) (rw (g .count) at (g .small)) (d .content ∙ simp append-assoc)
 
 pub writes-fewest : WritesFewest
 writes-fewest list lent r after w z i h c =
@@ -129,14 +149,9 @@ writes-fewest list lent r after w z i h c =
     let v = getD list i (pos 0) in
     let u = stored v in
     let b : u < 128 ^ groups = coordinate-small (i % 5) v c (g .ranges .ranged i h) in
-    record {
-      own = spelled groups u;
-      rest = bytesFrom (suc i) (drop (suc i) list) ++ drop (length (fileOf list)) lent;
-      there = ap (drop (placeOf (take i list))) (d .content) ∙ there list i (drop (length (fileOf list)) lent) h ∙ rw (coordinate-bytes (i % 5) v c);
-      canonical = canonical-spelled groups u (omega arith) b;
-      stands = value-spelled groups u b;
-      fewest = λ gs p e. subst (λ (x : ℕ). length (spelled groups x) ≤ length gs) e (fewest groups gs p);
-    }
+    let place = placeOf (length list / 5) (take i list) in
+    in-fewest u (drop place after) (bytesFrom (suc i) (drop (suc i) list) ++ drop (length (fileOf list)) lent) b
+    (ap (drop place) (d .content) ∙ there list i (drop (length (fileOf list)) lent) h ∙ rw (coordinate-bytes (i % 5) v c))
 
 -- ---- there and back
 

@@ -40,7 +40,7 @@ pub record InFewest (u : ℕ) (t : List ℕ) : Type 0 where
 abbrev pub OnEveryCall : (List ℤ → List ℕ → Answer → List ℕ → Type 0) → Type 0
 OnEveryCall P = (list : List ℤ) (lent : List ℕ) (r : Answer) (after : List ℕ) → Writes list lent r after → P list lent r after
 
--- what is due: "list faults as for the other list calls, then 8 when fewer than 833 bytes are lent"
+-- what is due: "list faults as for the other list calls, then 8 when fewer than 2,602 bytes are lent"
 abbrev pub WritingDue : List ℤ → List ℕ → Verdict → Type 0
 WritingDue list lent v = RoomDue list (λ n. longest) (length lent) v
 
@@ -63,11 +63,16 @@ DoneExactly =
     (n : ℕ) → WritingDue list lent (Accepted n)
     → (r ≡ doneWith (length (fileOf list))) × (take (r .count) after ≡ fileOf list) × (drop (r .count) after ≡ drop (r .count) lent))
 
--- "every number in the fewest groups of seven bits": coordinate i of the list, at its place in the bytes
+-- "every number in the fewest groups of seven bits": the count, with which the bytes begin,
+abbrev pub CountsFewest : Type 0
+CountsFewest = OnEveryCall (λ list lent r after. r .number ≡ 0 → InFewest (length list / 5) after)
+
+-- and coordinate i of the list, at its place in the bytes
 abbrev pub WritesFewest : Type 0
 WritesFewest =
     OnEveryCall (λ list lent r after.
-    r .number ≡ 0 → (i : ℕ) → i < length list → (i % 5 ≡ 0 → ⊥) → InFewest (stored (getD list i (pos 0))) (drop (placeOf (take i list)) after))
+    r .number ≡ 0 → (i : ℕ) → i < length list → (i % 5 ≡ 0 → ⊥)
+    → InFewest (stored (getD list i (pos 0))) (drop (placeOf (length list / 5) (take i list)) after))
 
 -- "Reading what was written gives the list again": into any numbers that have room for a chart
 abbrev pub ReadsWritten : Type 0

@@ -12,7 +12,7 @@ use Rattle.charts.specs.declared.Verdict.the-variants.{Accepted, Refused}
 use Rattle.chart_file.specs.Format.{fileOf, longest}
 use Rattle.chart_file.specs.Demand.{InRange}
 
--- "list faults as for the other list calls, then 8 when fewer than 833 bytes are lent"
+-- "list faults as for the other list calls, then 8 when fewer than 2,602 bytes are lent"
 unfoldable pub writingOf : List ℤ → ℕ → Verdict
 writingOf list lent = thenRoom (λ n. longest) lent (verdictOf list)
 

@@ -22,7 +22,7 @@ fn stored(v: i32) -> u32
     2 * (v as u32)
 }
 
-// How many groups of a stored number come before its last: seven of its binary digits stand in each, and its digits are
+// How many groups of a number come before its last: seven of its binary digits stand in each, and its digits are
 // those below its leading zeros.
 fn more_groups(v: u32) -> usize
     ensures { λ r. ⌜ r + 1 ≡ groupsBy 32 v ⌝ }
@@ -33,7 +33,7 @@ fn more_groups(v: u32) -> usize
     ((31 - u32::leading_zeros(v)) / 7) as usize
 }
 
-// Writes the groups of a stored number at a place; the place after them.
+// Writes the groups of a count or of a stored number at a place; the place after them.
 fn put_groups(v: u32, out: &mut [u8], at: usize) -> usize
     requires { ⌜ (v < 128 ^ groups) × (at + length (spelled groups v) ≤ length (now out)) ⌝ }
     ensures { λ r. ⌜ (r ≡ at + length (spelled groups v)) × (now (out .exit) ≡ sets (now (out .entry)) at (spelled groups v)) ⌝ }
@@ -88,8 +88,8 @@ pub fn write(list: &[i32], out: &mut [u8]) -> Answer
     match writing_of(list, out.len()) {
         Verdict::Refused(number, place) => charts::refused(number, place),
         Verdict::Accepted(n) => {
-            out[0] = n as u8;
-            charts::done(put_pieces(list, n, out, 1))
+            let next = put_groups(n as u32, out, 0);
+            charts::done(put_pieces(list, n, out, next))
         }
     }
 }

@@ -15,9 +15,9 @@ five kind x1 y1 x2 y2 = pos kind ∷ pos x1 ∷ pos y1 ∷ pos x2 ∷ pos y2 ∷
 
 pub record Examples : Type 0 where
   pub empty : verdictOf [] ≡ Accepted 0
-  -- "Counts 64 and 65": 320 numbers are judged piece by piece, 325 are not looked at
-  pub count-64 : verdictOf (replicate 320 (pos 1)) ≡ Refused 6 0
-  pub count-65 : verdictOf (replicate 325 (pos 9)) ≡ Refused 3 0
+  -- "Counts 200 and 201": 1,000 numbers are judged piece by piece, 1,005 are not looked at
+  pub count-200 : verdictOf (replicate 1000 (pos 1)) ≡ Refused 6 0
+  pub count-201 : verdictOf (replicate 1005 (pos 9)) ≡ Refused 3 0
   pub no-multiple : verdictOf (replicate 327 (pos 9)) ≡ Refused 9 0
   -- "coordinates 32,767 and 32,768"
   pub in-range : verdictOf (five 3 32767 0 0 32767) ≡ Accepted 1
@@ -40,8 +40,8 @@ unfolding verdictOf pieces faultAt numberAt faultOf outside offRange sameEnds eq
 examples =
     record {
       empty = refl;
-      count-64 = refl;
-      count-65 = refl;
+      count-200 = refl;
+      count-201 = refl;
       no-multiple = refl;
       in-range = refl;
       off-range = refl;

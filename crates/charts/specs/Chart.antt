@@ -9,9 +9,9 @@ use Rattle.charts.specs.Fault.{faultOf}
 use Rattle.charts.specs.declared.Verdict.{Verdict}
 use Rattle.charts.specs.declared.Verdict.the-variants.{Accepted, Refused}
 
--- "Up to 64 pieces, numbered from 0."
+-- "Up to 200 pieces, numbered from 0." (2026-07)
 abbrev pub most : ℕ
-most = 64
+most = 200
 
 -- "A piece is five whole numbers": number k of piece i
 unfoldable pub numberAt : List ℤ → ℕ → ℕ → ℤ

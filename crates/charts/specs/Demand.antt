@@ -59,7 +59,7 @@ module _ (list : List ℤ) where
   pub data Due : Verdict → Type 0 where
     -- "9: a list's length is no multiple of five"
     nine : ((n : ℕ) → ¬ (length list ≡ 5 * n)) → Due (Refused 9 0)
-    -- "3: count above 64"
+    -- "3: count above 200"
     three : (n : ℕ) → length list ≡ 5 * n → most < n → Due (Refused 3 0)
     -- "piece by piece 4, 5 (either end), 6"; "the place is the piece's number"
     piece : (n : ℕ) → length list ≡ 5 * n → n ≤ most → (i k : ℕ) → i < n → Sound i → FaultOf i (suc k) → Due (Refused (suc k) i)

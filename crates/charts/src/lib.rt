@@ -11,7 +11,7 @@ use line_segment::LineSegment;
 use line_segment::Meeting;
 
 // A chart has at most so many pieces.
-pub const MOST: usize = 64;
+pub const MOST: usize = 200;
 
 // Coordinates run from -RANGE to RANGE.
 pub const RANGE: i32 = 32767;

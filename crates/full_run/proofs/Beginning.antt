@@ -10,8 +10,8 @@ use Rattle.full_step.specs.Carried.{Given}
 use Rattle.ported_run.proofs.Beginning.{zeros, front-is}
 use Rattle.full_run.specs.Running.{Begun}
 
-pub begun : {n : ℕ} {table : List ℤ} {bytes : List ℕ} → Given n table bytes → (l : List ℕ) → length l ≡ length (take (2 * n) (zeros 128)) → l ≡ sortedKeys table n
-    → Begun n table (take (2 * n) (l ++ drop (2 * n) (zeros 128))) (zeros most) (zeros most) bytes
+pub begun : {n : ℕ} {table : List ℤ} {bytes : List ℕ} → Given n table bytes → (l : List ℕ) → length l ≡ length (take (2 * n) (zeros (2 * most))) → l ≡ sortedKeys table n
+    → Begun n table (take (2 * n) (l ++ drop (2 * n) (zeros (2 * most)))) (zeros most) (zeros most) bytes
 begun {n} K l e o =
     record {
       given = K;

@@ -2,12 +2,12 @@
 use mathlib.Core.Path.{_≡_, refl, sym, ap, subst, _∙_}
 use mathlib.Core.Bool.{true}
 use mathlib.Core.List.{List, _++_}
-use Prim.Native.Nat.{ℕ, _/_, _≤_}
+use Prim.Native.Nat.{ℕ, _*_, _/_, _≤_}
 use native.Mathlib.Omega.{arith}
 use lib.IntN.{ℤ, pos}
 use lib.ListN.{length, drop, replicate}
 use Rattle.line_segment.specs.declared.LineSegment.{LineSegment}
-use Rattle.charts.specs.Chart.{verdictOf}
+use Rattle.charts.specs.Chart.{most, verdictOf}
 use Rattle.charts.specs.Answer.{room, listingOf}
 use Rattle.charts.specs.Piece.{pieceAt}
 use Rattle.charts.specs.declared.Verdict.the-variants.{Accepted, Refused}
@@ -79,7 +79,7 @@ module _ (n : ℕ) (table : List ℤ) (lent : List ℕ) (K : Given n table lent)
   leaves = S .bytes-are ∙ sets-front lent (flat listed) fits
 
 -- ---- an accepted list
-module _ (list : List ℤ) (n : ℕ) (e : verdictOf list ≡ Accepted n) (table : List ℤ) (f : table ≡ filled list n (replicate 320 (pos 0))) (lent : List ℕ) (r : room n ≤ length lent) where
+module _ (list : List ℤ) (n : ℕ) (e : verdictOf list ≡ Accepted n) (table : List ℤ) (f : table ≡ filled list n (replicate (5 * most) (pos 0))) (lent : List ℕ) (r : room n ≤ length lent) where
   abbrev pieces : pieceIn table ≡ pieceAt list
   pieces = its-pieces list n e table f
 

@@ -107,7 +107,7 @@ fn put_end(m: usize, h: usize, x: usize, at: usize, out: &mut [i32])
 
 // The final piece includes both its ends, any other its first.
 fn kind_of(n: usize, j: usize) -> i32
-    requires { ⌜ j < 200 ⌝ }
+    requires { ⌜ j < mostPieces ⌝ }
     ensures { λ r. ⌜ r ≡ pos (kindOf n j) ⌝ }
 {
     if j + 1 == n { 3 } else { 1 }

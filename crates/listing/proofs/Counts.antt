@@ -4,7 +4,7 @@ use mathlib.Core.Path.{_≡_, refl}
 use mathlib.Core.Bool.{true}
 use mathlib.Core.List.{List}
 use mathlib.Core.List.{List·Memᴰ as In}
-use Prim.Native.Nat.{ℕ, _*_, _≤_}
+use Prim.Native.Nat.{ℕ, _+_, _*_, _-_, _≤_}
 use native.Mathlib.Omega.{arith}
 use lib.IntN.{ℤ}
 use lib.ListN.{length}
@@ -27,7 +27,8 @@ use Rattle.full_order.proofs.Modes.{list-full-sweeps}
 use Rattle.listing.specs.Listing.{largest}
 use Rattle.listing.specs.Demand.{SweptToTheEnd}
 
-most-room : room most ≡ 4032
+-- as a product of numerals
+pub most-room : room most ≡ most * (most - 1)
 unfolding room
 most-room = refl
 
@@ -41,24 +42,24 @@ module _ (list : List ℤ) (n : ℕ) (e : verdictOf list ≡ Accepted n) where
   pub lists-only : (budget : ℕ) (q : Pair) → In q ((answer C budget) .listed) → Pieces C q × (meets (kind C q) ≡ true)
   lists-only budget q m = let t = promises .lists-exactly budget q .0 m in (t .0, t .1)
 
-  pub room-few : room n ≤ 4032
-  room-few = omega (arith, room-least n most (accepted-most list n e), most-room)
+  pub room-few : room n ≤ room most
+  room-few = room-least n most (accepted-most list n e)
 
-  all-few : 2 * length (all C) ≤ 4032
-  all-few = omega (arith, all-twice C, room-few)
+  all-few : 2 * length (all C) ≤ room n
+  all-few = omega (arith, all-twice C)
 
-  meeting-few : 2 * length (meeting C) ≤ 4032
+  meeting-few : 2 * length (meeting C) ≤ room n
   unfolding meeting
   meeting-few = omega (arith, keep-fewer (λ q. meets (kind C q)) (all C), all-few)
 
-  pub listed-few : (budget : ℕ) → 2 * length ((answer C budget) .listed) ≤ 4032
-  listed-few budget = omega (arith, once-twice C ((answer C budget) .listed) (promises .lists-once budget) (λ q m. lists-only budget q m .0), room-few)
+  pub listed-few : (budget : ℕ) → 2 * length ((answer C budget) .listed) ≤ room n
+  listed-few budget = omega (arith, once-twice C ((answer C budget) .listed) (promises .lists-once budget) (λ q m. lists-only budget q m .0))
 
-  pub steps-few : (budget : ℕ) → (answer C budget) .steps ≤ 2144
-  steps-few budget = omega (arith, promises .steps-bounded budget, meeting-few, accepted-most list n e)
+  pub steps-few : (budget : ℕ) → 2 * (answer C budget) .steps ≤ 4 * most + room most
+  steps-few budget = omega (arith, promises .steps-bounded budget, meeting-few, room-few, accepted-most list n e)
 
   ended : (answer C largest) .ended ≡ true
-  ended = promises .ends-exactly largest .1 (omega (arith, promises .counts-steps (length (points C)), steps-few (length (points C))))
+  ended = promises .ends-exactly largest .1 (omega (arith, promises .counts-steps (length (points C)), steps-few (length (points C)), most-room))
 
 pub swept-to-the-end : SweptToTheEnd
 swept-to-the-end = ended

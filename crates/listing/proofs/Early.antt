@@ -1,4 +1,4 @@
--- The first 834 bytes of an input decide its listing.
+-- As many bytes as the longest file has, and one more, decide a listing.
 -- Assumes nothing.
 use mathlib.Core.Path.{ap}
 use Rattle.chart_file.proofs.Early.{decided-early as reading-decided}

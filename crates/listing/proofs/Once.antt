@@ -17,7 +17,7 @@ use Rattle.listing_lines.proofs.put_complete.Reads as put-complete
 use Rattle.listing_lines.proofs.put_pairs.Reads as put-pairs
 use Rattle.listing.proofs.put_listing.Reads as put-listing
 
-one-text : {x y : ℕ} {b c : List ℕ} {t : Text} → text b x ≡ t → text c y ≡ t → (x ≡ y) × (b ≡ c)
+pub one-text : {x y : ℕ} {b c : List ℕ} {t : Text} → text b x ≡ t → text c y ≡ t → (x ≡ y) × (b ≡ c)
 one-text h k = let e = h ∙ sym k in (ap (λ (t : Text). t .end) e, ap (λ (t : Text). t .bytes) e)
 
 pub put-byte-once : OneOutcome put-byte.Post (λ κ s. now (s .0))

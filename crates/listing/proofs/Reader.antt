@@ -43,6 +43,15 @@ module _ (s : List ℕ) (b : Bytes s) (list : List ℤ) (lent : 5 * most ≤ len
       go (due xs at) e = absurd (z (ap (λ (a : Answer). a .number) e))
       go (stopped f p) e = sym (rw e refl)
 
+  -- and no piece is counted
+  pub uncounted : (r .number ≡ 0 → ⊥) → r .count ≡ 0
+  unfolding answerOf
+  uncounted z = go (readingOf s) answers
+    where
+      go : (q : Reading) → r ≡ answerOf q → r .count ≡ 0
+      go (due xs at) e = absurd (z (ap (λ (a : Answer). a .number) e))
+      go (stopped f p) e = ap (λ (a : Answer). a .count) e
+
   pub charted : r .number ≡ 0 → Charted s after (r .count)
   unfolding answerOf contentOf
   charted z = go (readingOf s) refl answers holds

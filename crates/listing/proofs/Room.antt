@@ -24,18 +24,18 @@ use Rattle.listing_lines.specs.Lines.{countLine, pairLine, pairLines}
 use Rattle.listing.specs.Listing.{largest, chartLines, chartText, textOf, listingOf, longestText}
 use Rattle.listing.specs.Demand.{Fits}
 use Rattle.listing_lines.proofs.Widths.{count-width, complete-width, pair-width}
-use Rattle.listing.proofs.Counts.{lists-only, listed-few, steps-few}
+use Rattle.listing.proofs.Counts.{most-room, room-few, lists-only, listed-few, steps-few}
 
 -- ---- a chart
 module _ (list : List ℤ) (n : ℕ) (e : verdictOf list ≡ Accepted n) where
-  line-width : (q : Pair) → (q .0 < q .1) × (q .1 < n) → length (pairLine (whereOf (pieceAt list (q .0)) (pieceAt list (q .1))) (q .0) (q .1)) ≤ 45
+  line-width : (q : Pair) → (q .0 < q .1) × (q .1 < n) → length (pairLine (whereOf (pieceAt list (q .0)) (pieceAt list (q .1))) (q .0) (q .1)) ≤ 47
   line-width q h =
       let few = accepted-most list n e in
       pair-width (pieceAt list (q .0)) (pieceAt list (q .1)) (q .0) (q .1)
       (pieces-have-length list n (q .0) e (omega arith)) (pieces-have-length list n (q .1) e (h .1))
       (given-in-range list (q .0)) (given-in-range list (q .1)) (omega arith) (omega arith)
 
-  lines-width : (ps : List Pair) → ((q : Pair) → In q ps → (q .0 < q .1) × (q .1 < n)) → length (pairLines list ps) ≤ 45 * length ps
+  pub lines-width : (ps : List Pair) → ((q : Pair) → In q ps → (q .0 < q .1) × (q .1 < n)) → length (pairLines list ps) ≤ 47 * length ps
   unfolding pairLines
   lines-width [] h = omega arith
   lines-width (q ∷ ps) h =
@@ -53,11 +53,13 @@ module _ (list : List ℤ) (n : ℕ) (e : verdictOf list ≡ Accepted n) where
       rw (length-append, length-append, length-append)
       (omega (
         arith,
-        count-width (ascii "chart ") n 1 (omega (arith, accepted-most list n e)),
+        count-width (ascii "chart ") n 2 (omega (arith, accepted-most list n e)),
         complete-width (swept .complete),
         lines-width (swept .listed) (λ q m. lists-only list n e largest q m .0),
         listed-few list n e largest,
-        count-width (ascii "steps ") (swept .steps) 9 (omega (arith, steps-few list n e largest)),
+        room-few list n e,
+        most-room,
+        count-width (ascii "steps ") (swept .steps) 9 (omega (arith, steps-few list n e largest, most-room)),
       ))
 
 -- ---- a refusal, whose number has one digit

@@ -1,12 +1,13 @@
 -- What a full sweep of an accepted list answers, and the pairs in front of the lent bytes.
 -- Assumes nothing.
-use mathlib.Core.Path.{_≡_, ap, _∙_}
+use mathlib.Core.Path.{_≡_, refl, ap, _∙_}
 use mathlib.Core.List.{List}
 use Prim.Native.Nat.{ℕ, _*_, _≤_}
+use native.Mathlib.Nat.{le-trans}
 use lib.IntN.{ℤ}
 use lib.ListN.{length, take}
 use borrow.Author.Tests.{le-ltb}
-use Rattle.charts.specs.Chart.{verdictOf}
+use Rattle.charts.specs.Chart.{most, verdictOf}
 use Rattle.charts.specs.Answer.{room}
 use Rattle.charts.specs.Answer.{listingOf as verdictFor}
 use Rattle.charts.specs.Piece.{pieceAt}
@@ -23,13 +24,15 @@ use Rattle.listing.proofs.Counts.{room-few, listed-few}
 
 -- what was answered and left is what the listing prints
 pub record Listed (list : List ℤ) (n : ℕ) (r : Swept) (after : List ℕ) : Type 0 where
-  pub few : 2 * r .pairs ≤ 4032
+  pub few : 2 * r .pairs ≤ room n
+  pub pairs : pairsIn (take (2 * r .pairs) after) ≡ (answer (finer n (pieceAt list)) largest) .listed
+  pub steps : r .steps ≡ (answer (finer n (pieceAt list)) largest) .steps
   pub text : chartLines list n (r .complete) (pairsIn (take (2 * r .pairs) after)) (r .steps) ≡ chartText list n
 
-module _ (list : List ℤ) (n : ℕ) (e : verdictOf list ≡ Accepted n) (lent : List ℕ) (l : length lent ≡ 4032) where
+module _ (list : List ℤ) (n : ℕ) (e : verdictOf list ≡ Accepted n) (lent : List ℕ) (l : room most ≤ length lent) where
   goes : verdictFor list (length lent) ≡ Accepted n
   unfolding verdictFor
-  goes = rw (e, l, le-ltb 4032 (room n) (room-few list n e))
+  goes = rw (e, le-ltb (length lent) (room n) (le-trans (room-few list n e) l))
 
   swept-is : sweepOf list largest (length lent) ≡ saying n (pieceAt list) (answer (finer n (pieceAt list)) largest)
   unfolding sweepOf sweptBy
@@ -44,4 +47,4 @@ module _ (list : List ℤ) (n : ℕ) (e : verdictOf list ≡ Accepted n) (lent :
   full-sweep r after h k =
       let a = answer (finer n (pieceAt list)) largest in
       rw (h ∙ swept-is, k)
-      (record { few = listed-few list n e largest; text = ap (λ (ps : List Pair). chartLines list n (a .complete) ps (a .steps)) pairs-are })
+      (record { few = listed-few list n e largest; pairs = pairs-are; steps = refl; text = ap (λ (ps : List Pair). chartLines list n (a .complete) ps (a .steps)) pairs-are })

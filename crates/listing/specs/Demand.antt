@@ -20,7 +20,7 @@ use Rattle.full_steps.specs.Steps.{answer}
 use Rattle.full_order.specs.Finer.{finer}
 use Rattle.listing.specs.Listing.{largest, chartLines, chartText, listingOf, deciding, longestText}
 
--- no byte past the first 834 changes the listing, however long the input
+-- no byte past those that decide changes the listing, however long the input
 abbrev pub DecidedEarly : Type 0
 DecidedEarly = (file : List ℕ) (k : ℕ) → deciding ≤ k → listingOf (take k file) ≡ listingOf file
 

@@ -2,10 +2,11 @@
 -- Assumes nothing.
 use mathlib.Core.Bool.{Bool, cond}
 use mathlib.Core.List.{List, _++_}
-use Prim.Native.Nat.{ℕ, suc, _+_, _*_, _/_}
+use Prim.Native.Nat.{ℕ, suc, _+_, _*_, _-_, _/_}
 use lib.Dec.{ltb}
 use lib.IntN.{ℤ}
 use lib.ListN.{length, drop}
+use Rattle.charts.specs.Chart.{most}
 use Rattle.charts.specs.Piece.{pieceAt}
 use Rattle.charts.specs.Answer.{doneWith, refusedWith}
 use Rattle.charts.specs.declared.Answer.{Answer}
@@ -44,10 +45,10 @@ listingOf file = textOf (readingOf file)
 abbrev pub deciding : ℕ
 deciding = suc longest
 
--- the longest text: "chart 64", "complete yes", 2,016 lines such as "pair 62 63 along -32767 -32767 -32766 -32766", which are
--- longer than any "pair 62 63 at -32767 -32766 -32767 -32766", and the steps, of at most ten digits
+-- the longest text: "chart 200", "complete yes", a line for every pair, such as "pair 198 199 along -32767 -32767 -32766 -32766",
+-- which is longer than any "pair 198 199 at -32767 -32766 -32767 -32766", and the steps, of at most ten digits
 abbrev pub longestText : ℕ
-longestText = 9 + 13 + 2016 * 45 + 17
+longestText = 10 + 13 + most * (most - 1) / 2 * 47 + 17
 
 -- ---- the call on lent bytes
 

@@ -12,8 +12,8 @@ use charts::MOST;
 // The bytes of every pair of the largest chart.
 const PAIRS: usize = MOST * (MOST - 1);
 
-// The bytes of the longest listing, of which a line of a pair has 45: a caller lends as many.
-pub const LONGEST: usize = 9 + 13 + PAIRS / 2 * 45 + 17;
+// The bytes of the longest listing, of which a line of a pair has 47: a caller lends as many.
+pub const LONGEST: usize = 10 + 13 + PAIRS / 2 * 47 + 17;
 
 // The longest chart file and one byte more: so much of an input decides its listing.
 pub const DECIDING: usize = chart_file::LONGEST + 1;

@@ -1,4 +1,4 @@
--- How long a line is: a pair's has at most 45 bytes, one of an At at most 42.
+-- How long a line is: a pair's has at most 47 bytes, one of an At at most 44.
 -- Assumes nothing.
 use mathlib.Core.Path.{_≡_, refl}
 use mathlib.Core.Bool.{Bool, true, false}
@@ -91,8 +91,8 @@ unfolding completeLine ascii
 complete-width true = lit≤ tt
 complete-width false = lit≤ tt
 
-pub pair-width : (a b : LineSegment) (i j : ℕ) → HasLength a → HasLength b → InRange a → InRange b → i < 100 → j < 100 → length (pairLine (whereOf a b) i j) ≤ 45
+pub pair-width : (a b : LineSegment) (i j : ℕ) → HasLength a → HasLength b → InRange a → InRange b → i < 1000 → j < 1000 → length (pairLine (whereOf a b) i j) ≤ 47
 unfolding pairLine ascii
 pair-width a b i j h k r s l m =
     rw (length-append, length-append, length-append, length-append, length-append)
-    (omega (arith, short i 1 l, short j 1 m, place-width (whereOf a b) (where-charted a b h k r s)))
+    (omega (arith, short i 2 l, short j 2 m, place-width (whereOf a b) (where-charted a b h k r s)))

@@ -10,10 +10,6 @@ use Rattle.line_segment.specs.Segment.{intersectOf}
 use Rattle.line_segment.specs.Demand.{saysYes}
 use Rattle.charts.specs.Piece.{pieceAt}
 
--- so many pieces an array holds
-abbrev pub held : ℕ
-held = 200
-
 -- the first n pieces of a list
 unfoldable pub piecesOf : List ℤ → ℕ → List LineSegment
 piecesOf list zero = []

@@ -10,20 +10,18 @@ ghost use Rattle.charts.specs.Chart.{most};
 ghost use Rattle.charts.specs.Answer.{room};
 ghost use Rattle.naive.specs.Pairs.{rows, bytes, over};
 ghost use Rattle.naive.specs.AllPairs.{allPairsOf, lentAfter};
-ghost use Rattle.naive.specs.Decoded.{held, piecesOf, meetsIn};
+ghost use Rattle.naive.specs.Decoded.{piecesOf, meetsIn};
 ghost use Rattle.naive.specs.Sides.{oneSide, twoSides, besideOf, acrossOf, Long};
 use charts::Answer;
+use charts::MOST;
 use charts::Verdict;
 use line_segment::EndPoint;
 use line_segment::LineSegment;
 use line_segment::Meeting;
 
-// So many pieces are listed at most: those of an open chart, and a list has no more.
-pub const HELD: usize = 200;
-
 // The pieces of a chart, each read from the list once.
 pub struct Pieces {
-    pub all: [LineSegment; HELD],
+    pub all: [LineSegment; MOST],
 }
 
 // The first n of the array are the chart's; the rest is never read.
@@ -31,7 +29,7 @@ pub fn pieces_of(list: &[i32], n: usize) -> Pieces
     requires { ⌜ n ≤ most ⌝ }
     ensures { λ r. ⌜ take n (r .all) ≡ piecesOf (now (list .entry)) n ⌝ }
 {
-    let mut all = [segment_test::piece(0, 0, 0, 0, 0); HELD];
+    let mut all = [segment_test::piece(0, 0, 0, 0, 0); MOST];
     for i in 0..n {
         all[i] = charts::piece_at(list, i);
     }
@@ -99,7 +97,7 @@ pub fn meets(a: LineSegment, b: LineSegment) -> bool
 
 // The pairs that meet, greater number first, into the front of `pairs`; how many they are.
 pub fn list_pairs(pieces: Pieces, n: usize, pairs: &mut [u8]) -> usize
-    requires { ⌜ (n ≤ held) × (room n ≤ length (now pairs)) × Long (pieces .all) n ⌝ }
+    requires { ⌜ (n ≤ most) × (room n ≤ length (now pairs)) × Long (pieces .all) n ⌝ }
     ensures { λ r. ⌜ (r ≡ length (rows (meetsIn (pieces .all)) n)) × (now (pairs .exit) ≡ over (bytes (rows (meetsIn (pieces .all)) n)) (now (pairs .entry))) ⌝ }
 {
     let all = pieces.all;

@@ -12,7 +12,7 @@ abbrev pub places : ℕ
 places = 200
 
 abbrev pub memory : ℕ
-memory = 1000
+memory = 5 * places
 
 abbrev pub five : ℤ → ℤ → ℤ → ℤ → ℤ → List ℤ
 five kind x1 y1 x2 y2 = kind ∷ x1 ∷ y1 ∷ x2 ∷ y2 ∷ []

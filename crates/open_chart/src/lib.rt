@@ -1,12 +1,11 @@
 // A chart that stays open: 200 places in lent memory, five numbers each. Whatever stands in the memory, a place whose five
 // numbers are a piece is used, and any other is free.
-use naive::HELD;
 
-// So many places has an open chart.
-pub const PLACES: usize = HELD;
+// So many places has an open chart: no more than a list may have pieces.
+pub const PLACES: usize = 200;
 
 // So many numbers its memory takes, five a place.
-pub const NUMBERS: usize = 1000;
+pub const NUMBERS: usize = 5 * PLACES;
 
 // What a change returns.
 #[repr(C)]

@@ -7,6 +7,7 @@ ghost use Rattle.open_chart.specs.Memory.{places, memory};
 ghost use Rattle.open_chart.specs.Changes.{usedOf};
 ghost use Rattle.open_chart.specs.Listing.{Gathered, renamed, openPairsOf, lentAfter};
 use charts::Answer;
+use charts::MOST;
 use line_segment::LineSegment;
 use naive::Pieces;
 use open_changes::is_used;
@@ -15,7 +16,7 @@ use open_chart::PLACES;
 
 // The pieces of the used places, in order, and the numbers of those places.
 pub struct Standing {
-    pub all: [LineSegment; PLACES],
+    pub all: [LineSegment; MOST],
     pub names: [u8; PLACES],
     pub count: usize,
 }
@@ -24,7 +25,7 @@ fn gather(chart: &[i32]) -> Standing
     requires { ⌜ memory ≤ length (now chart) ⌝ }
     ensures { λ r. ⌜ Gathered (now (chart .entry)) places (r .all) (r .names) (r .count) ⌝ }
 {
-    let mut all = [segment_test::piece(0, 0, 0, 0, 0); PLACES];
+    let mut all = [segment_test::piece(0, 0, 0, 0, 0); MOST];
     let mut names = [0; PLACES];
     let mut count = 0;
     for i in 0..PLACES {

@@ -27,7 +27,7 @@ pub record Input : Type 0 where
   pub list : List ℤ
 
 pub data Refuse (i : Input) : ℕ → ℕ → Type 0 where
-  -- "8 first (under 320 numbers lent)"
+  -- "8 first (under 1,000 numbers lent)"
   room : length (i .list) < 5 * most → Refuse i 8 0
   -- "then the first fault in reading order"
   fault : (k p : ℕ) → 5 * most ≤ length (i .list) → file.Due (i .file) (stopped k p) → Refuse i k p

@@ -1,7 +1,7 @@
 -- There is room for every pair, and so the arrays of a run agree with the sweep.
 use mathlib.Core.Path.{_≡_, refl}
 use mathlib.Core.List.{List}
-use Prim.Native.Nat.{ℕ, _≤_, _<_}
+use Prim.Native.Nat.{ℕ, _*_, _≤_, _<_}
 use native.Mathlib.Omega.{arith}
 use lib.IntN.{ℤ}
 use lib.ListN.{length}
@@ -24,7 +24,7 @@ use Rattle.ported_run.specs.Running.{places}
 module _ (n : ℕ) (table : List ℤ) (bytes : List ℕ) (few : n ≤ most) (long : (i : ℕ) → i < n → HasLength (pieceIn table i)) (lists : room n ≤ length bytes) where
   pub has-room : Room (chartIn n table) places bytes
   has-room =
-      let r : room most ≡ 4032 = unfold room in refl in
+      let r : room most ≡ 2 * places = unfold room in refl in
       let l = room-least n most few in
       let twice = all-twice (chartIn n table) in
       record { few = few; waits = omega (arith, twice, l, r); lists = omega (arith, flat-length (all (chartIn n table)), twice, lists) }

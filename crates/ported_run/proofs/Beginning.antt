@@ -23,23 +23,23 @@ long : (k : ℕ) → length (zeros k) ≡ k
 long k = length-replicate {A = ℕ} k 0
 
 module _ (n : ℕ) (few : n ≤ most) where
-  pub part-long : 2 * n ≡ length (take (2 * n) (zeros 128))
-  part-long = sym (length-take-le (2 * n) (zeros 128) (omega (arith, few, long 128)))
+  pub part-long : 2 * n ≡ length (take (2 * n) (zeros (2 * most)))
+  part-long = sym (length-take-le (2 * n) (zeros (2 * most)) (omega (arith, few, long (2 * most))))
 
   -- the ends, ordered in the front of their array
-  module _ (l : List ℕ) (e : length l ≡ length (take (2 * n) (zeros 128))) where
-    pub front-within : 2 * n ≤ length (l ++ drop (2 * n) (zeros 128))
-    front-within = omega (arith, few, length-front (zeros 128) l (2 * n) e, long 128)
+  module _ (l : List ℕ) (e : length l ≡ length (take (2 * n) (zeros (2 * most)))) where
+    pub front-within : 2 * n ≤ length (l ++ drop (2 * n) (zeros (2 * most)))
+    front-within = omega (arith, few, length-front (zeros (2 * most)) l (2 * n) e, long (2 * most))
 
-    pub front-is : take (2 * n) (l ++ drop (2 * n) (zeros 128)) ≡ l
-    front-is = take-at l (drop (2 * n) (zeros 128)) (2 * n) (e ∙ sym part-long)
+    pub front-is : take (2 * n) (l ++ drop (2 * n) (zeros (2 * most))) ≡ l
+    front-is = take-at l (drop (2 * n) (zeros (2 * most))) (2 * n) (e ∙ sym part-long)
 
-    pub front-long : 2 * n ≡ length (take (2 * n) (l ++ drop (2 * n) (zeros 128)))
+    pub front-long : 2 * n ≡ length (take (2 * n) (l ++ drop (2 * n) (zeros (2 * most))))
     front-long = rw front-is (part-long ∙ sym e)
 
     pub begun : (table : List ℤ) (bytes : List ℕ) → ((i : ℕ) → i < n → HasLength (pieceIn table i)) → room n ≤ length bytes
-        → l ≡ insert-all (end-before (chartIn n table)) [] (upto (length (take (2 * n) (zeros 128))))
-        → Begun n table (take (2 * n) (l ++ drop (2 * n) (zeros 128))) (zeros most) (zeros (most * most)) (zeros places) bytes
+        → l ≡ insert-all (end-before (chartIn n table)) [] (upto (length (take (2 * n) (zeros (2 * most)))))
+        → Begun n table (take (2 * n) (l ++ drop (2 * n) (zeros (2 * most)))) (zeros most) (zeros (most * most)) (zeros places) bytes
     unfolding blank
     begun table bytes h r o =
         record {

@@ -24,7 +24,7 @@ use Rattle.ported_run.proofs.Counting.{one-more}
 use Rattle.ported_run.proofs.Running.{back, told, lastOf, Going, next-is}
 
 pub record Tallied (table : List ℤ) (ends active marks waiting bytes : List ℕ) (steps tally : ℕ) : Type 0 where
-  pub few : tally ≤ steps * 128
+  pub few : tally ≤ steps * (2 * most)
   pub counted : (n : ℕ) → Begun n table ends active marks waiting bytes → tally ≡ examined (chartIn n table) steps
 
 pub tallies-none : (table : List ℤ) (ends active marks waiting bytes : List ℕ) → Tallied table ends active marks waiting bytes 0 0

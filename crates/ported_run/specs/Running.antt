@@ -2,7 +2,7 @@
 use mathlib.Core.Path.{_≡_}
 use mathlib.Core.Bool.{Bool, cond}
 use mathlib.Core.List.{List, []}
-use Prim.Native.Nat.{ℕ, _*_, _≤_, _<_}
+use Prim.Native.Nat.{ℕ, _-_, _*_, _/_, _≤_, _<_}
 use lib.Dec.{eqb}
 use lib.IntN.{ℤ}
 use lib.ListN.{length}
@@ -26,7 +26,7 @@ use Rattle.ported_run.specs.Last.{asLast}
 
 -- a place for every pair of the largest chart
 abbrev pub places : ℕ
-places = 2016
+places = most * (most - 1) / 2
 
 abbrev pub lastAt : ℕ → Point → Last
 lastAt steps p = cond (eqb steps 0) None (At p)

@@ -1,7 +1,7 @@
 // A run of the ported sweep, below its call in bentley_ottmann: from the first step until the budget or the queue is empty.
 ghost use mathlib.Core.Path.{_≡_};
 ghost use mathlib.Core.Option.{none};
-ghost use Prim.Native.Nat.{ℕ, _+_, _-_, _≤_, _<_};
+ghost use Prim.Native.Nat.{ℕ, _+_, _-_, _≤_, _<_, _^_};
 ghost use lib.ListN.{length, drop};
 ghost use Rattle.line_segment.specs.Piece.{HasLength};
 ghost use Rattle.charts.specs.Chart.{most};
@@ -49,7 +49,7 @@ fn gaps(count: usize) -> u64
 
 // A step's examinations added: of the pieces that stayed, and of those that are active then.
 fn tally(examined: u64, stay: usize, live: usize) -> u64
-    requires { ⌜ (examined ≤ 1099511627776) × (stay ≤ most) × (live ≤ most) ⌝ }
+    requires { ⌜ (examined < 2 ^ 63) × (stay ≤ most) × (live ≤ most) ⌝ }
     ensures { λ r. ⌜ r ≡ examined + ((stay - 1) + (live - 1)) ⌝ }
 {
     examined + (gaps(stay) + gaps(live))

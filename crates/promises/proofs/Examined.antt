@@ -1,7 +1,7 @@
 -- The promises of the pairs examined, kept. Assumes nothing.
 use mathlib.Core.Path.{_≡_, sym, ap, _∙_}
 use mathlib.Core.List.{List}
-use Prim.Native.Nat.{ℕ, suc, _+_, _-_, _*_, _≤_, _<_}
+use Prim.Native.Nat.{ℕ, suc, _+_, _-_, _*_, _≤_, _<_, _^_}
 use native.Mathlib.Nat.{le-trans, mul-le-mul-right}
 use native.Mathlib.Omega.{arith}
 use lib.IntN.{ℤ}
@@ -54,10 +54,10 @@ module _ (list : List ℤ) (n budget : ℕ) (lent : List ℕ) (c : Accepts list 
     within : (k : ℕ) → r .steps ≤ k → r .examined ≤ k * aStep n
     within k h = le-trans of-steps (mul-le-mul-right (aStep n) h)
 
-    fits : budget < 4294967296 → r .examined < 549755813888
+    fits : budget < 2 ^ 32 → r .examined < 2 ^ 32 * aStep most
     fits h =
         let s = ported-promises .counts-steps list n budget lent r after c o .0 in
-        let t = within 4294967296 (omega (arith, h, s)) in
+        let t = within (2 ^ 32 - 1) (omega (arith, h, s)) in
         omega (arith, t, few)
 
 pub examined-promises : ExaminedPromises

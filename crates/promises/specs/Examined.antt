@@ -2,8 +2,9 @@
 use mathlib.Core.Path.{_≡_}
 use mathlib.Core.Bool.{true}
 use mathlib.Core.List.{List}
-use Prim.Native.Nat.{ℕ, suc, _+_, _*_, _≤_, _<_}
+use Prim.Native.Nat.{ℕ, suc, _+_, _*_, _≤_, _<_, _^_}
 use lib.IntN.{ℤ}
+use Rattle.charts.specs.Chart.{most}
 use Rattle.charts.specs.Piece.{pieceAt}
 use Rattle.sweep.specs.Ported.{ported}
 use Rattle.examinations.specs.Examined.{examined}
@@ -26,5 +27,5 @@ pub record ExaminedPromises : Type 0 where
   pub in-all : OnEveryChart Ported (BesideAllPairs Ported (λ list n budget r after a all. r .examined ≤ (2 * n + a .count) * aStep n))
   -- .. k the count of those listed, of a full run on a chart with no upright piece
   pub full-run : OnWholeCharts Ported NoneUpright (λ list n budget lent r after. r .ended ≡ true → r .examined ≤ (2 * n + r .pairs) * aStep n)
-  -- with budgets of 32 bits the sum stays below 2^39, and so within 64 bits
-  pub fits : OnEveryChart Ported (λ list n budget lent r after. budget < 4294967296 → r .examined < 549755813888)
+  -- with budgets of 32 bits the sum stays below 2^32 times what a step may examine of the largest chart, and so within 64 bits
+  pub fits : OnEveryChart Ported (λ list n budget lent r after. budget < 2 ^ 32 → r .examined < 2 ^ 32 * aStep most)

@@ -1,6 +1,5 @@
 // Replays recorded files. A record on standard input is a letter that says what is asked, the length of a chart file, two
 // bytes, low first, and its bytes; what the library answers is written as the Rust's answers were (tests/recorded/README.md).
-mod listings;
 mod meeting;
 mod pairs;
 mod places;
@@ -17,7 +16,7 @@ fn answer(asked: u8, file: &[u8], list: &[i32]) {
         b'a' => pairs::write(list),
         b's' => stops::write(list, false),
         b'f' => stops::write(list, true),
-        b'l' => listings::write(file),
+        b'l' => listing_parts::print(file),
         _ => text::words(b"asked nothing\n"),
     }
 }

@@ -9,7 +9,7 @@ use Rattle.charts.specs.Answer.{room, listingOf}
 use Rattle.charts.specs.Pair.{pairVerdictOf, meetingOf}
 use Rattle.chart_file.specs.Groups.{value, marked, groupsAt}
 use Rattle.chart_file.specs.Coordinate.{signedOf}
-use Rattle.chart_file.specs.Reading.{kindAt, turned, coordinateAt, standsAt, joined, more, numbers, withLength, piece, ended, readingOf, lentReading, answerOf}
+use Rattle.chart_file.specs.Reading.{limited, countAt, counted, kindAt, turned, coordinateAt, standsAt, joined, more, numbers, withLength, piece, ended, readingOf, lentReading, answerOf}
 use Rattle.chart_file.specs.Reading.{pieces as piecesIn}
 use Rattle.chart_file.proofs.Examples.{examples as files}
 use Rattle.fractions.specs.Order.{order}
@@ -26,7 +26,7 @@ use Rattle.starred.specs.Starred.{cross, Starred}
 use Rattle.starred.proofs.Sweeps.{sweeps}
 
 pub starred : Starred
-unfolding outside offRange eqZ sameEnds faultOf numberAt faultAt pieces verdictOf kindOf coordinateOf pieceAt room listingOf pairVerdictOf meetingOf value marked groupsAt signedOf kindAt turned coordinateAt standsAt joined more numbers withLength piece ended readingOf lentReading answerOf piecesIn pointOf endOrder order ratioOrder pointOrder alongBy alongOf whereBy whereOf bytes over sweptBy listedOver sweepOf lentAfter
+unfolding outside offRange eqZ sameEnds faultOf numberAt faultAt pieces verdictOf kindOf coordinateOf pieceAt room listingOf pairVerdictOf meetingOf value marked groupsAt signedOf limited countAt counted kindAt turned coordinateAt standsAt joined more numbers withLength piece ended readingOf lentReading answerOf piecesIn pointOf endOrder order ratioOrder pointOrder alongBy alongOf whereBy whereOf bytes over sweptBy listedOver sweepOf lentAfter
 starred = record {
   points = sweeps .cross-points;
   two-steps = ap₂ (saying 2 (pieceAt cross)) (sweeps .cross-two) (sweeps .cross-examined .0);

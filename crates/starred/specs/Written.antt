@@ -1,13 +1,14 @@
 -- How the tables write lists, points and answers.
 use mathlib.Core.Bool.{true}
 use mathlib.Core.List.{List, [], _∷_}
-use Prim.Native.Nat.{ℕ}
+use Prim.Native.Nat.{ℕ, _*_}
 use lib.IntN.{ℤ, pos}
 use Rattle.fractions.specs.declared.Point.{Point}
 use Rattle.line_segment.specs.declared.EndPoint.{EndPoint}
 use Rattle.line_segment.specs.declared.Meeting.{Meeting}
 use Rattle.charts.specs.declared.Answer.{Answer}
 use Rattle.charts.specs.declared.MeetingAnswer.{MeetingAnswer}
+use Rattle.charts.specs.Chart.{most}
 use Rattle.charts.specs.Piece.{pieceAt}
 use Rattle.chart_file.specs.Reading.{lentReading, answerOf}
 use Rattle.place.specs.declared.Where.{Where}
@@ -33,9 +34,9 @@ met meeting = record { number = 0; place = 0; meeting = meeting }
 abbrev pub place : List ℤ → Where
 place list = whereOf (pieceAt list 0) (pieceAt list 1)
 
--- what the reader answers, 320 numbers lent
+-- what the reader answers, with as many numbers lent as the largest chart has
 abbrev pub read : List ℕ → Answer
-read file = answerOf (lentReading 320 file)
+read file = answerOf (lentReading (5 * most) file)
 
 -- a file of one piece, kind 3, in which these bytes stand where its first coordinate is due, at place 2
 abbrev pub coordinate : List ℕ → List ℕ

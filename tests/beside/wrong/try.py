@@ -23,7 +23,7 @@ def fields(path):
 
 
 def build():
-    env = os.environ | {"STATICLIB": str(root / "target/staticlib"), "CARGO_TARGET_DIR": str(work)}
+    env = os.environ | {"STATICLIB": str(root / "target/linked"), "CARGO_TARGET_DIR": str(work)}
     cargo = ["cargo", "build", "--quiet", "--release", "--offline", "--package", "compare"]
     subprocess.run(cargo, cwd=layout, env=env, check=True, capture_output=True, text=True)
 

@@ -4,13 +4,14 @@ use mathlib.Core.Path.{_≡_, refl, sym, _∙_}
 use Prim.Native.Nat.{_≤_, _-_}
 use native.Mathlib.Omega.{arith}
 use lib.ListN.{length, take, length-set}
-use Rattle.naive.specs.Decoded.{held, piecesOf}
+use Rattle.charts.specs.Chart.{most}
+use Rattle.naive.specs.Decoded.{piecesOf}
 use Rattle.naive.proofs.Stored.{pieces-none, piece-stored}
 use Rattle.naive.proofs.pieces_of.Statement.{statement}
 use Rattle.naive.proofs.pieces_of.Tie as tie
 
 abbrev Inv-loop : tie.InvT-loop
-Inv-loop list n all₀ i₀ all i = (i ≤ n) × (length all ≡ held) × (take i all ≡ piecesOf list i)
+Inv-loop list n all₀ i₀ all i = (i ≤ n) × (length all ≡ most) × (take i all ≡ piecesOf list i)
 
 abbrev μ-loop : tie.MeasureT-loop
 μ-loop list n all₀ i₀ all i = n - i

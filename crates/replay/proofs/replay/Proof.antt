@@ -1,4 +1,4 @@
--- `replay`: what was read is at most 64 pieces, so their numbers are in the list.
+-- `replay`: what was read is no more than the most pieces, so their numbers are in the list.
 use borrow.Author.Needs.{needs}
 use native.Mathlib.Omega.{arith}
 use mathlib.Core.Path.{sym}

@@ -8,7 +8,7 @@ pub type Chart = Vec<Piece>;
 pub type Pair = (usize, usize);
 
 pub const LIMIT: i32 = 32_767;
-pub const MOST_PIECES: usize = 64;
+pub const MOST_PIECES: usize = 200;
 
 /// (x / d, y / d), d positive, with no common divisor.
 #[derive(Clone, Copy, PartialEq, Eq, Debug)]

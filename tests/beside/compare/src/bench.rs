@@ -18,8 +18,11 @@ pub const BATCHES: usize = 40;
 const POINTS: usize = 1_000;
 
 /// Prints the tables; `programs` is the folder with the programs of plain.cpp, once.c and, where it could be had,
-/// cgal.cpp.
+/// cgal.cpp. Where the library is not compiled for the processor, only the last table, of its text.
 pub fn print(programs: &Path) -> Result<()> {
+  if !cfg!(target_arch = "x86_64") {
+    return bench_full::print(programs);
+  }
   println!("| points | library, ns | Rust, ns | Rust / library |");
   println!("|---|---|---|---|");
   order_row(
@@ -58,21 +61,38 @@ pub fn print(programs: &Path) -> Result<()> {
   bench_full::print(programs)
 }
 
-/// The charts of four tempers, each cut to 16 and 32 pieces and whole.
+/// A chart has so many pieces: a small one, as many as a chart had until 2026-07, and as many as it has.
+pub const SIZES: [usize; 3] = [16, OLD_MOST, MOST_PIECES];
+const OLD_MOST: usize = 64;
+
+/// The charts of four tempers, each at every size.
 fn measured() -> Vec<(&'static str, Chart)> {
-  let cut = |(name, chart): (_, Chart)| [16, 32, 64].map(|n| (name, chart[..n].to_vec()));
-  tempers(0).into_iter().flat_map(cut).collect()
+  let [small, old, full] = SIZES.map(|n| tempers(0, n));
+  let temper = |k: usize| [small[k].clone(), old[k].clone(), full[k].clone()];
+  (0..small.len()).flat_map(temper).collect()
 }
 
-/// A chart of each temper; the first is the one that every table has.
-pub fn tempers(index: usize) -> [(&'static str, Chart); 4] {
+/// A chart of each temper with n pieces; those of index 0 are the ones that every table has. The first pieces are those of
+/// the chart of 64, but where every two cross.
+pub fn tempers(index: usize, n: usize) -> [(&'static str, Chart); 4] {
   let random = &mut Random::new(SEED, index);
+  let reaches = [("sparse", 3_000), ("middle", 12_000), ("dense", 2 * LIMIT)];
+  let mut charts = reaches.map(|(_, reach)| scattered(random, OLD_MOST, reach));
+  let mut every_two = crossed(random, OLD_MOST);
+  if n > OLD_MOST {
+    for (chart, (_, reach)) in charts.iter_mut().zip(reaches) {
+      chart.extend(scattered(random, n - OLD_MOST, reach));
+    }
+    every_two = crossed(random, n);
+  }
+  let [sparse, middle, dense] = charts;
   [
-    ("sparse", scattered(random, MOST_PIECES, 3_000)),
-    ("middle", scattered(random, MOST_PIECES, 12_000)),
-    ("dense", scattered(random, MOST_PIECES, 2 * LIMIT)),
-    ("every two cross", crossed(random)),
+    ("sparse", sparse),
+    ("middle", middle),
+    ("dense", dense),
+    ("every two cross", every_two),
   ]
+  .map(|(name, chart)| (name, chart[..n].to_vec()))
 }
 
 /// Every point against the one after it.
@@ -111,7 +131,7 @@ fn pairs_row(name: &str, chart: &Chart, plain: &Path) -> Result<()> {
   let rust = least(BATCHES, calls, || {
     black_box(black_box(&original).naive());
   });
-  let (plain_count, cpp) = ask(plain, calls, &as_text(&list))?;
+  let (plain_count, cpp) = ask(plain, BATCHES, calls, &as_text(&list))?;
   if [plain_count, original.naive().len()] != [count; 2] {
     return Err(Error::other("the counts of pairs differ"));
   }
@@ -135,7 +155,7 @@ fn ordered_row(name: &str, chart: &Chart) -> Result<()> {
   if ordered != swept {
     return Err(Error::other("the lists differ"));
   }
-  let calls = 20_000 / steps;
+  let calls = (20_000 / steps).max(1);
   let plain = least(BATCHES, calls, || {
     black_box(library::plain_order(black_box(&list), &mut ordered));
   });
@@ -181,8 +201,8 @@ pub fn least(batches: usize, calls: usize, mut call: impl FnMut()) -> f64 {
 }
 
 /// The count of pairs and the nanoseconds of one call that a C++ program tells of charts.
-pub fn ask(program: &Path, calls: usize, charts: &str) -> Result<(usize, f64)> {
-  let question = format!("{BATCHES} {calls} {charts}");
+pub fn ask(program: &Path, batches: usize, calls: usize, charts: &str) -> Result<(usize, f64)> {
+  let question = format!("{batches} {calls} {charts}");
   let told = answer(&mut Command::new(program), &question)?.stdout;
   let told = String::from_utf8_lossy(&told);
   let times = |(count, ns): (&str, &str)| Some((count.parse().ok()?, ns.parse().ok()?));
@@ -232,9 +252,10 @@ fn scattered(random: &mut Random, n: usize, reach: i32) -> Chart {
 }
 
 /// The higher a piece begins at the left, the lower it ends at the right.
-fn crossed(random: &mut Random) -> Chart {
-  let mut height = |i: i32| 1_000 * i + random.between(-400, 400);
-  (-32..32)
+fn crossed(random: &mut Random, n: usize) -> Chart {
+  let (half, apart) = (n as i32 / 2, 64_000 / n as i32);
+  let mut height = |i: i32| apart * i + random.between(-apart * 2 / 5, apart * 2 / 5);
+  (-half..half)
     .map(|i| [3, -30_000, height(i), 30_000, height(-i)])
     .collect()
 }

@@ -5,8 +5,8 @@ use std::fmt::Debug;
 use crate::answers::{Chart, Pair};
 use crate::original::Original;
 use crate::{
-  batch, file, half_line, naive, order, orient, place, plain, refusals, region, removal, segment,
-  supplied, sweep, writing,
+  batch, file, full, half_line, naive, order, orient, place, plain, refusals, region, removal,
+  segment, supplied, sweep, writing,
 };
 
 pub struct Case {
@@ -22,10 +22,16 @@ impl Case {
     }
   }
 
-  /// Every two pieces, in both orders.
+  /// Every two pieces, in both orders; of many pieces, one in so many.
   pub fn pairs(&self) -> impl Iterator<Item = Pair> + use<> {
     let n = self.chart.len();
-    (0..n).flat_map(move |a| (0..n).filter(move |b| *b != a).map(move |b| (a, b)))
+    let all = (0..n).flat_map(move |a| (0..n).filter(move |b| *b != a).map(move |b| (a, b)));
+    all.step_by(self.one_in())
+  }
+
+  /// All are asked about up to 64 pieces, and of more so few that it takes no longer.
+  pub fn one_in(&self) -> usize {
+    1 + self.chart.len().pow(2) / (64 * 64 + 1)
   }
 
   /// Small enough to ask the Rust's exact numbers about everything.
@@ -37,21 +43,39 @@ impl Case {
 /// Compares every answer about one chart; the first difference is told.
 pub fn check(chart: &Chart) -> Result<(), String> {
   let case = Case::new(chart);
-  orient::compare(&case)?;
-  segment::compare(&case)?;
-  place::compare(&case)?;
-  half_line::compare(&case)?;
-  region::compare(&case)?;
-  order::compare(&case)?;
-  naive::compare(&case)?;
-  supplied::compare(&case)?;
+  compare_meetings(&case)?;
   sweep::compare(&case)?;
   plain::compare(&case)?;
   removal::compare(&case)?;
-  batch::compare(&case)?;
-  refusals::compare(&case)?;
-  file::compare(&case)?;
-  writing::compare(&case)
+  compare_lists(&case)
+}
+
+fn compare_meetings(case: &Case) -> Result<(), String> {
+  orient::compare(case)?;
+  segment::compare(case)?;
+  place::compare(case)?;
+  half_line::compare(case)?;
+  region::compare(case)?;
+  order::compare(case)?;
+  naive::compare(case)?;
+  supplied::compare(case)
+}
+
+fn compare_lists(case: &Case) -> Result<(), String> {
+  batch::compare(case)?;
+  refusals::compare(case)?;
+  file::compare(case)?;
+  writing::compare(case)
+}
+
+/// Compares every answer about a chart but the steps of the Rust's sweep, which would take minutes, and but those without
+/// a piece.
+pub fn check_fullest(chart: &Chart) -> Result<(), String> {
+  let case = Case::new(chart);
+  compare_meetings(&case)?;
+  let due = full::compare_alone(&case)?;
+  plain::compare_with(&case, &due.pairs())?;
+  compare_lists(&case)
 }
 
 /// Compares how the pieces of a chart meet, and nothing else.

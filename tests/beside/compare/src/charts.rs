@@ -264,15 +264,44 @@ pub fn scattered(random: &mut Random, n: usize, reach: i32) -> Chart {
   })
 }
 
+/// The Rust's sweep takes seconds where more than some hundreds of pairs cross, so the more pieces the shorter they are.
 pub fn any_size(random: &mut Random) -> Chart {
-  let n = random.between(1, MOST_PIECES as i32) as usize;
-  let reach = random.pick(&[20, 3_000, 12_000]);
-  scattered(random, n, reach)
+  let n = random.between(1, MOST_PIECES as i32);
+  let reach = random.pick(&[20, 3_000, 12_000]).min(1_000_000 / n);
+  scattered(random, n as usize, reach)
+}
+
+pub fn middle_size(random: &mut Random) -> Chart {
+  let reach = random.pick(&[20, 1_000, 3_000, 6_000]);
+  scattered(random, 64, reach)
 }
 
 pub fn full_size(random: &mut Random) -> Chart {
-  let reach = random.pick(&[20, 1_000, 3_000, 6_000]);
+  let reach = random.pick(&[20, 400, 1_000, 2_000]);
   scattered(random, MOST_PIECES, reach)
+}
+
+/// Charts of the most pieces with far more meetings than the Rust sweeps in good time, the first of them with all that
+/// there may be at points of their own.
+pub fn fullest() -> Vec<Chart> {
+  let numbers = || 0..MOST_PIECES as i32;
+  let every_two_cross =
+    numbers().map(|i| [3, -LIMIT, 8_200 + 120 * i, LIMIT, 32_700 - i * (i + 1) / 2]);
+  let from_one_point = numbers().map(|i| [i % 4, -LIMIT, 0, LIMIT, 150 * i - 15_000]);
+  let through_one_point = numbers().map(|i| [3, -200, i - 100, 200, 100 - i]);
+  let on_one_line = numbers().map(|i| [i % 4, 7 * i, 3 * i, 7 * i + 28, 3 * i + 12]);
+  let levels_and_uprights = numbers().map(|i| match i % 2 {
+    0 => [3, -300, i, 300, i],
+    _ => [3, i, -300, i, 300],
+  });
+  vec![
+    every_two_cross.collect(),
+    from_one_point.collect(),
+    through_one_point.collect(),
+    on_one_line.collect(),
+    levels_and_uprights.collect(),
+    scattered(&mut Random::new(5, 0), MOST_PIECES, 12_000),
+  ]
 }
 
 /// Coordinates at and near the limits and zero, up to 8 pieces.

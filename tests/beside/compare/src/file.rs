@@ -7,7 +7,7 @@ use crate::library;
 use crate::refusals::numbers;
 use crate::writing;
 
-/// "under 320 numbers lent"
+/// "under 1,000 numbers lent"
 pub const ROOM: usize = 5 * MOST_PIECES;
 
 pub fn compare(case: &Case) -> Result<(), String> {
@@ -69,13 +69,13 @@ pub fn damaged(chart: &Chart) -> Vec<(Vec<u8>, Refusal)> {
   let sound = write(chart);
   let mut faults = vec![
     ([&sound[..], &[0]].concat(), (7, sound.len())),
-    (vec![MOST_PIECES as u8 + 1], (3, 0)),
-    (vec![0x80], (3, 0)),
+    (in_groups(MOST_PIECES as u32 + 1), (3, 0)),
+    (vec![0x80], (1, 0)),
   ];
   let starts = starts(chart);
-  for (k, start) in starts.iter().enumerate() {
-    let end = starts.get(k + 1).copied().unwrap_or(sound.len());
-    faults.extend((*start..end).map(|cut| (sound[..cut].to_vec(), (1, *start))));
+  for cut in (0..sound.len()).step_by(1 + sound.len() / MOST_CUTS) {
+    let number = starts.partition_point(|start| *start <= cut) - 1;
+    faults.push((sound[..cut].to_vec(), (1, starts[number])));
   }
   if chart.is_empty() {
     return faults;
@@ -93,6 +93,9 @@ pub fn damaged(chart: &Chart) -> Vec<(Vec<u8>, Refusal)> {
   faults
 }
 
+/// A file is cut at each place, a long one at so many.
+const MOST_CUTS: usize = 256;
+
 /// Groups that are no coordinate, and why.
 const FAULTY_COORDINATES: [(&[u8], u8); 7] = [
   (&[0x80], 1),
@@ -107,15 +110,13 @@ const FAULTY_COORDINATES: [(&[u8], u8); 7] = [
 /// Where each number of the chart's file starts.
 fn starts(chart: &Chart) -> Vec<usize> {
   let mut starts = vec![0];
-  let mut at = 1;
+  let mut at = in_groups(chart.len() as u32).len();
   for piece in chart {
     starts.push(at);
     at += 1;
     for v in &piece[1..] {
       starts.push(at);
-      let mut bytes = Vec::new();
-      write_groups(stored(*v), &mut bytes);
-      at += bytes.len();
+      at += in_groups(stored(*v)).len();
     }
   }
   starts
@@ -123,11 +124,11 @@ fn starts(chart: &Chart) -> Vec<usize> {
 
 /// "The count, then the five numbers of each piece, then the end."
 pub fn write(chart: &Chart) -> Vec<u8> {
-  let mut bytes = vec![chart.len() as u8];
+  let mut bytes = in_groups(chart.len() as u32);
   for piece in chart {
     bytes.push(piece[0] as u8);
     for v in &piece[1..] {
-      write_groups(stored(*v), &mut bytes);
+      bytes.extend(in_groups(stored(*v)));
     }
   }
   bytes
@@ -139,21 +140,27 @@ fn stored(v: i32) -> u32 {
   stored as u32
 }
 
-fn write_groups(mut v: u32, bytes: &mut Vec<u8>) {
+/// "groups of seven bits, low group first, high bit set on every group but the last, in the fewest groups"
+pub fn in_groups(mut v: u32) -> Vec<u8> {
+  let mut bytes = Vec::new();
   while v >= 128 {
     bytes.push((v % 128) as u8 | 128);
     v /= 128;
   }
   bytes.push(v as u8);
+  bytes
 }
 
 pub fn read(bytes: &[u8]) -> Result<Chart, Refusal> {
   let mut at = 0;
-  let count = plain(bytes, &mut at, 3, MOST_PIECES as u8)?;
+  let count = groups(bytes, &mut at)?;
+  if count > MOST_PIECES as u32 {
+    return Err((3, 0));
+  }
   let mut chart = Chart::new();
   for _ in 0..count {
     let start = at;
-    let mut piece = [i32::from(plain(bytes, &mut at, 4, 3)?), 0, 0, 0, 0];
+    let mut piece = [kind(bytes, &mut at)?, 0, 0, 0, 0];
     for v in &mut piece[1..] {
       *v = coordinate(bytes, &mut at)?;
     }
@@ -168,19 +175,15 @@ pub fn read(bytes: &[u8]) -> Result<Chart, Refusal> {
   Ok(chart)
 }
 
-/// One byte, refused with `number` where it is above `most`.
-fn plain(bytes: &[u8], at: &mut usize, number: u8, most: u8) -> Result<u8, Refusal> {
+/// One plain byte.
+fn kind(bytes: &[u8], at: &mut usize) -> Result<i32, Refusal> {
   let start = *at;
   let v = *bytes.get(start).ok_or((1, start))?;
   *at += 1;
-  if v > most {
-    Err((number, start))
-  } else {
-    Ok(v)
-  }
+  if v > 3 { Err((4, start)) } else { Ok(v.into()) }
 }
 
-fn coordinate(bytes: &[u8], at: &mut usize) -> Result<i32, Refusal> {
+fn groups(bytes: &[u8], at: &mut usize) -> Result<u32, Refusal> {
   let start = *at;
   let mut stored = 0;
   for group in 0.. {
@@ -195,6 +198,12 @@ fn coordinate(bytes: &[u8], at: &mut usize) -> Result<i32, Refusal> {
       break;
     }
   }
+  Ok(stored)
+}
+
+fn coordinate(bytes: &[u8], at: &mut usize) -> Result<i32, Refusal> {
+  let start = *at;
+  let stored = groups(bytes, at)?;
   let half = (stored / 2) as i32;
   let v = if stored % 2 == 0 { half } else { -half - 1 };
   if v.abs() > LIMIT {

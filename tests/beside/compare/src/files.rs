@@ -1,15 +1,17 @@
 //! Files that no chart has: every short one of telling bytes, every change of a byte, cut and
-//! extension of sound ones, random bytes, and every size of the lent list up to the limit.
+//! extension of sound ones, random bytes, and every size of the lent list up to the limit. And files
+//! of every count, in as many groups as it has and in more.
 
-use crate::answers::{Chart, LIMIT, MOST_PIECES};
+use crate::answers::{Chart, LIMIT, MOST_PIECES, Refusal};
+use crate::case::agree;
 use crate::charts::Random;
-use crate::file::{ROOM, compare_reading, damaged, write};
+use crate::file::{self, ROOM, compare_reading, damaged, in_groups, write};
 use crate::kept;
 
 /// Bytes at which an answer changes: counts, kinds and last groups at their limits, and groups with
 /// their high bit set.
-const TELLING: [u8; 12] = [
-  0x00, 0x01, 0x02, 0x03, 0x04, 0x40, 0x41, 0x7f, 0x80, 0x83, 0xfe, 0xff,
+const TELLING: [u8; 14] = [
+  0x00, 0x01, 0x02, 0x03, 0x04, 0x40, 0x41, 0x7f, 0x80, 0x83, 0xc8, 0xc9, 0xfe, 0xff,
 ];
 
 /// What comes before telling bytes: nothing, a kind, three coordinates.
@@ -22,6 +24,12 @@ pub fn compare(seed: u64, count: usize) -> Result<(usize, usize), String> {
     files.extend(changed(&write(&chart)));
   }
   files.extend((0..count).map(|i| random(&mut Random::new(seed, i))));
+  for (bytes, due) in counts((0..=MOST_PIECES as u32).chain(BEYOND)) {
+    let call = || format!("the count of {bytes:02x?}");
+    let read = file::read(&bytes).map(|chart| chart.len());
+    agree(call, "scope", due, "model", read)?;
+    files.push(bytes);
+  }
   let mut read = 0;
   for bytes in &files {
     read += usize::from(compare_reading(bytes, ROOM)?);
@@ -41,7 +49,53 @@ pub fn sample() -> Vec<Vec<u8>> {
     files.push(write(&chart));
     files.extend(damaged(&chart).into_iter().map(|(bytes, _)| bytes));
   }
+  files.push(write(&widest()[..64].to_vec()));
   files.push(write(&widest()));
+  let counts = counts([127, 128, 199, 200, 201, 255, 16_384].into_iter());
+  files.extend(counts.into_iter().map(|(bytes, _)| bytes));
+  files
+}
+
+/// Counts beyond the most, among them such as are small in eight bits or in sixteen.
+const BEYOND: [u32; 8] = [
+  MOST_PIECES as u32 + 1,
+  255,
+  256,
+  257,
+  456,
+  16_383,
+  16_384,
+  65_537,
+];
+
+/// Files of these counts, in the fewest groups, in more and cut inside the count, and what is due of each: how many pieces
+/// are read, or the refusal.
+fn counts(counts: impl Iterator<Item = u32>) -> Vec<(Vec<u8>, Result<usize, Refusal>)> {
+  let mut files = Vec::new();
+  for count in counts {
+    let pieces = [3, 0, 0, 2, 2].repeat(count.min(MOST_PIECES as u32 + 1) as usize);
+    let fewest = in_groups(count);
+    let fits = count as usize <= MOST_PIECES;
+    let due = if fits {
+      Ok(count as usize)
+    } else {
+      Err((3, 0))
+    };
+    files.push(([&fewest[..], &pieces].concat(), due));
+    for cut in 0..fewest.len() {
+      files.push((fewest[..cut].to_vec(), Err((1, 0))));
+    }
+    let mut padded = fewest;
+    while padded.len() <= 3 {
+      *padded.last_mut().expect("a number has a group") |= 0x80;
+      files.push((
+        padded.clone(),
+        Err((if padded.len() > 2 { 2 } else { 1 }, 0)),
+      ));
+      padded.push(0);
+      files.push(([&padded[..], &pieces].concat(), Err((2, 0))));
+    }
+  }
   files
 }
 
@@ -62,10 +116,12 @@ pub fn widest() -> Chart {
   vec![[3, LIMIT, -LIMIT, -LIMIT, LIMIT]; MOST_PIECES]
 }
 
-/// The file with each of its bytes changed to every other, cut at each place, and with each byte added.
+/// The file with each of its bytes changed to every other, cut at each place, and with each byte added. Of a long file the
+/// bytes at its front and its end, and one in 37 between: some at each place of a piece, which has 13.
 fn changed(sound: &[u8]) -> Vec<Vec<u8>> {
   let mut files = Vec::new();
-  for at in 0..sound.len() {
+  let told = |at: &usize| *at < 64 || at + 64 >= sound.len() || at % 37 == 0;
+  for at in (0..sound.len()).filter(told) {
     files.push(sound[..at].to_vec());
     for b in (0..=255).filter(|b| *b != sound[at]) {
       let mut bytes = sound.to_vec();
@@ -79,7 +135,7 @@ fn changed(sound: &[u8]) -> Vec<Vec<u8>> {
 
 /// A count and random bytes, half of them telling.
 fn random(random: &mut Random) -> Vec<u8> {
-  let mut bytes = vec![random.between(0, MOST_PIECES as i32 + 1) as u8];
+  let mut bytes = in_groups(random.between(0, MOST_PIECES as i32 + 1) as u32);
   for _ in 0..random.between(0, 900) {
     let any = random.between(0, 255) as u8;
     let telling = random.pick(&TELLING);

@@ -3,9 +3,11 @@
 //! sweep does, step by step.
 
 use crate::answers::{Chart, Meeting, Pair, Point, Run, Swept, is_upright};
-use crate::case::{Case, same};
+use crate::case::{Case, agree, same};
+use crate::lent::{self, room};
 use crate::library;
 use crate::original::Original;
+use crate::refusals::numbers;
 use crate::sweep_call::{Asked, Stop};
 use crate::text;
 
@@ -65,7 +67,46 @@ fn first(original: &Original, a: usize, b: usize) -> Point {
   }
 }
 
+/// Beside the Rust's steps, where no piece is upright.
 pub fn compare(case: &Case, run: &Run) -> Result<(), String> {
+  let due = compare_due(case)?;
+  if case.chart.iter().any(is_upright) {
+    return Ok(());
+  }
+  let call = || "sweep".to_string();
+  let visited: Vec<Point> = run.steps.iter().map(|step| step.visited).collect();
+  same(call, &visited, "full sweep", &due.points)?;
+  same(call, &run.list, "full sweep", &due.pairs())
+}
+
+/// Without the Rust's steps. Where no piece is upright, the ported sweep answers the same, but for what it examined.
+pub fn compare_alone(case: &Case) -> Result<Due, String> {
+  let due = compare_due(case)?;
+  if case.chart.iter().any(is_upright) {
+    return Ok(due);
+  }
+  let (list, n) = (numbers(&case.chart), case.chart.len());
+  let mut bytes = lent::bytes(room(n));
+  let content = lent::with_pairs(&bytes, &due.pairs());
+  let swept = library::sweep(&list, u32::MAX, &mut bytes);
+  let most = 2 * (n as u64 - 1) * due.points.len() as u64;
+  let examined = swept.examined.min(most);
+  let expected = Swept {
+    examined,
+    ..due.stopped(u32::MAX)
+  };
+  let call = || format!("sweep of {list:?}");
+  agree(
+    call,
+    "model",
+    (expected, content),
+    "library",
+    (swept, bytes),
+  )?;
+  Ok(due)
+}
+
+fn compare_due(case: &Case) -> Result<Due, String> {
   let due = Due::of(&case.chart, &case.original);
   let pairs = due.pairs();
   let stop = |budget| Stop {
@@ -88,15 +129,5 @@ pub fn compare(case: &Case, run: &Run) -> Result<(), String> {
   for asked in asked {
     asked.compare(case, steps, stop)?;
   }
-  if case.chart.iter().any(is_upright) {
-    return Ok(());
-  }
-  let call = || "sweep".to_string();
-  same(
-    call,
-    run.steps.iter().map(|step| step.visited).collect(),
-    "full sweep",
-    due.points,
-  )?;
-  same(call, &run.list, "full sweep", &pairs)
+  Ok(due)
 }

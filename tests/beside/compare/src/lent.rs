@@ -10,6 +10,11 @@ pub fn room(n: usize) -> usize {
   n * n.saturating_sub(1)
 }
 
+/// Room for a list that is refused, and more.
+pub fn plenty(list: &[i32]) -> usize {
+  room(list.len() / 5 + 1)
+}
+
 /// Filled with what no call writes, so that a byte which must keep its value is seen to.
 pub fn bytes(lent: usize) -> Vec<u8> {
   (0..lent).map(|i| 0x80 | i as u8).collect()

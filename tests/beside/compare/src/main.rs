@@ -16,8 +16,8 @@ mod case;
 mod charts;
 mod file;
 mod files;
-mod full;
 mod folded;
+mod full;
 mod half_line;
 mod kept;
 mod lent;
@@ -131,7 +131,9 @@ fn main() -> ExitCode {
   match open::compare(seed, days) {
     Ok((count, refused)) => {
       let seconds = start.elapsed().as_secs_f32();
-      println!("compare: {count} changes of open charts, {refused} of them refused, {seconds:.1} s");
+      println!(
+        "compare: {count} changes of open charts, {refused} of them refused, {seconds:.1} s"
+      );
     }
     Err(told) => {
       println!("compare: an open chart differs in {told}");
@@ -194,9 +196,14 @@ fn gate(share: usize) -> Vec<Family> {
     thinned(random("upright", GATE_SEED, 8_000, charts::uprights), share),
     thinned(random("any-size", GATE_SEED, 300, charts::any_size), share),
     thinned(
-      random("full-size", GATE_SEED, 1_000, charts::full_size),
+      random("middle-size", GATE_SEED, 700, charts::middle_size),
       share,
     ),
+    thinned(
+      random("full-size", GATE_SEED, 200, charts::full_size),
+      share,
+    ),
+    fullest(),
   ]
 }
 
@@ -227,6 +234,7 @@ fn long(seed: u64, count: usize) -> Vec<Family> {
     random("near-whole", seed, count, charts::near_wholes),
     random("upright", seed, count, charts::uprights),
     random("any-size", seed, count, charts::any_size),
+    random("middle-size", seed, count, charts::middle_size),
     random("full-size", seed, count, charts::full_size),
   ]
 }
@@ -238,6 +246,16 @@ fn kept() -> Family {
     count: charts.len(),
     chart: Box::new(move |i| charts[i].clone()),
     check: case::check,
+  }
+}
+
+fn fullest() -> Family {
+  let charts = charts::fullest();
+  Family {
+    name: "fullest",
+    count: charts.len(),
+    chart: Box::new(move |i| charts[i].clone()),
+    check: case::check_fullest,
   }
 }
 

@@ -1,15 +1,19 @@
 //! The plain order: the Rust's sweep of a chart without upright pieces, and the library's list made without a sweep, byte by
 //! byte of what its two calls leave in lent memory. A chart with an upright piece is refused.
 
-use crate::answers::{Answer, MOST_PIECES, Pair, Refusal, is_upright};
+use crate::answers::{Answer, Pair, Refusal, is_upright};
 use crate::case::{Case, agree};
-use crate::lent::{self, SPARE, room};
+use crate::lent::{self, SPARE, plenty, room};
 use crate::library;
 use crate::refusals::{damaged, numbers};
 
 pub fn compare(case: &Case) -> Result<(), String> {
+  compare_with(case, &case.original.sweep())
+}
+
+/// Beside what a full sweep leaves of a chart without upright pieces.
+pub fn compare_with(case: &Case, swept: &[Pair]) -> Result<(), String> {
   let list = numbers(&case.chart);
-  let swept = case.original.sweep();
   let upright = case.chart.iter().any(is_upright);
   let enough = room(case.chart.len());
   for lent in [0, enough.saturating_sub(1), enough, enough + SPARE] {
@@ -18,16 +22,16 @@ pub fn compare(case: &Case) -> Result<(), String> {
     } else if upright {
       Err((19, 0))
     } else {
-      Ok(&swept[..])
+      Ok(swept)
     };
     compare_call(&list, lent, outcome)?;
   }
   for (list, refusal) in damaged(&case.chart) {
-    for lent in [0, room(MOST_PIECES + 1)] {
+    for lent in [0, plenty(&list)] {
       compare_call(&list, lent, Err(refusal))?;
     }
   }
-  if upright {
+  if upright || !case.is_small() {
     return Ok(());
   }
   compare_calls(&list, enough + SPARE)

@@ -25,13 +25,14 @@ pub fn write(folder: &Path) -> io::Result<()> {
     asked.extend(record(b'r', &bytes));
     told += &reading(&bytes);
   }
+  let and_fullest = [&any[..], &charts::fullest()[..1]].concat();
   let questions: [(u8, &[Chart], fn(&Chart) -> String); 6] = [
     (b'm', &two, segment),
     (b'p', &two, place),
-    (b'a', &any, naive),
+    (b'a', &and_fullest, naive),
     (b's', &any, sweep),
     (b'f', &any, full_sweep),
-    (b'l', &any, listing),
+    (b'l', &and_fullest, listing),
   ];
   for (letter, charts, answer) in questions {
     for chart in charts {
@@ -84,11 +85,12 @@ fn charts_of_any_count() -> Vec<Chart> {
   let wide = random(40, charts::extreme).chain(random(30, charts::near_ties));
   small
     .chain(wide)
-    .chain(random(10, charts::full_size))
+    .chain(random(10, charts::middle_size))
     .chain(random(40, charts::near_wholes))
     .chain(kept::uprights())
     .chain(random(80, charts::uprights))
     .chain(kept::ties())
+    .chain(random(2, charts::full_size))
     .collect()
 }
 

@@ -7,12 +7,18 @@ use crate::{library, original};
 
 type Corner = [i32; 2];
 
+const MOST_CORNERS: usize = 64;
+
 const ON: u8 = 1;
 const INSIDE: u8 = 2;
 const OUTSIDE: u8 = 3;
 
 pub fn compare(case: &Case) -> Result<(), String> {
-  let corners: Vec<Corner> = case.chart.iter().map(|p| [p[1], p[2]]).collect();
+  let mut corners: Vec<Corner> = case.chart.iter().map(|p| [p[1], p[2]]).collect();
+  if corners.len() > MOST_CORNERS {
+    compare_one(&corners, [0, 0])?;
+    corners.truncate(MOST_CORNERS);
+  }
   for p in &case.chart {
     for peak in [[p[3], p[4]], [p[3], p[2]], [p[1], p[4]]] {
       compare_one(&corners, peak)?;
@@ -54,7 +60,7 @@ fn compare_one(corners: &[Corner], peak: Corner) -> Result<(), String> {
 
 /// By document and by the Rust's half-line.
 fn due(corners: &[Corner], peak: Corner) -> Result<u8, (u8, usize)> {
-  if !(3..=64).contains(&corners.len()) {
+  if !(3..=MOST_CORNERS).contains(&corners.len()) {
     return Err((15, 0));
   }
   let sides: Vec<[Corner; 2]> = sides(corners);

@@ -1,4 +1,4 @@
-//! The scope's examples that are not starred, with the answers that stand there: counts 64 and 65,
+//! The scope's examples that are not starred, with the answers that stand there: counts 200 and 201,
 //! coordinates 32,767 and 32,768, the upright gap. crates/starred proves the starred ones.
 
 use crate::answers::{Answer, Chart, Pair, Point, Refusal, Swept};
@@ -12,8 +12,8 @@ use crate::refusals::numbers;
 pub fn compare() -> Result<(), String> {
   let alike = |count| vec![[3, 0, 0, 1, 1]; count];
   let reaching = |x| vec![[3, x, 0, 0, 0]];
-  accepted("64 pieces", &alike(64), 2_016)?;
-  refused("65 pieces", &alike(65), (3, 0), (3, 0))?;
+  accepted("200 pieces", &alike(200), 19_900)?;
+  refused("201 pieces", &alike(201), (3, 0), (3, 0))?;
   accepted("32,767 as a coordinate", &reaching(32_767), 0)?;
   refused("32,768 as a coordinate", &reaching(32_768), (5, 2), (5, 0))?;
   upright_gap()

@@ -14,14 +14,19 @@ pub fn smallest(mut chart: Chart, is_wrong: impl Fn(&Chart) -> bool) -> Chart {
 }
 
 fn simpler(chart: &Chart) -> impl Iterator<Item = Chart> {
-  without_a_piece(chart).chain(with_a_simpler_number(chart))
+  without_pieces(chart).chain(with_a_simpler_number(chart))
 }
 
-fn without_a_piece(chart: &Chart) -> impl Iterator<Item = Chart> {
-  (0..chart.len()).map(|i| {
-    let mut fewer = chart.clone();
-    fewer.remove(i);
-    fewer
+/// Without half of the pieces that stand together, without a quarter, and so on down to one.
+fn without_pieces(chart: &Chart) -> impl Iterator<Item = Chart> {
+  let halves = std::iter::successors(Some(chart.len() / 2), |size| Some(size / 2));
+  let sizes = halves.take_while(|size| *size > 1).chain([1]);
+  sizes.flat_map(move |size| {
+    (0..chart.len()).step_by(size).map(move |from| {
+      let mut fewer = chart.clone();
+      fewer.drain(from..(from + size).min(chart.len()));
+      fewer
+    })
   })
 }
 

@@ -1,8 +1,8 @@
 //! A call that sweeps into lent bytes, stopped at every budget, beside what is due there; and its refusals.
 
-use crate::answers::{MOST_PIECES, Pair, Run, Swept, is_upright};
+use crate::answers::{Pair, Run, Swept, is_upright};
 use crate::case::{Case, agree};
-use crate::lent::{self, SPARE, room};
+use crate::lent::{self, SPARE, plenty, room};
 use crate::library;
 use crate::refusals::{damaged, numbers};
 
@@ -58,7 +58,7 @@ impl Asked {
         }
       }
       for (list, refusal) in damaged(&case.chart) {
-        for lent in [0, room(MOST_PIECES + 1)] {
+        for lent in [0, plenty(&list)] {
           self.compare_refusal(&list, lent, budget, refusal)?;
         }
       }
@@ -127,6 +127,9 @@ fn stopped(run: &Run, complete: bool, budget: u32) -> Swept {
     ended: done == run.steps.len(),
     complete,
     last: last.map(|step| step.visited),
-    examined: run.steps[..done].iter().map(|step| step.examined.len() as u64).sum(),
+    examined: run.steps[..done]
+      .iter()
+      .map(|step| step.examined.len() as u64)
+      .sum(),
   }
 }

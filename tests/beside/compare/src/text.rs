@@ -9,7 +9,6 @@ use crate::model;
 use crate::refusals::numbers;
 
 const WAITING: u8 = 1;
-const LISTED: u8 = 2;
 
 pub fn run(chart: &Chart) -> Result<Run, String> {
   let mut bytes = lent::bytes(room(chart.len()));
@@ -20,7 +19,10 @@ pub fn run(chart: &Chart) -> Result<Run, String> {
   let steps = steps?;
   let examined: usize = steps.iter().map(|step| step.examined.len()).sum();
   if swept.examined != examined as u64 {
-    return Err(format!("library, by its text: {} pairs examined, and says {}", examined, swept.examined));
+    return Err(format!(
+      "library, by its text: {} pairs examined, and says {}",
+      examined, swept.examined
+    ));
   }
   Ok(Run {
     steps,
@@ -30,7 +32,20 @@ pub fn run(chart: &Chart) -> Result<Run, String> {
 
 /// The new mode's call.
 pub fn full_sweep(list: &[i32], budget: u32, bytes: &mut [u8]) -> Swept {
-  let told = full_sweep::sweep(list, budget, bytes);
+  as_swept(full_sweep::sweep(list, budget, bytes))
+}
+
+/// The ported mode's.
+pub fn sweep(list: &[i32], budget: u32, bytes: &mut [u8]) -> Swept {
+  as_swept(bentley_ottmann::sweep(list, budget, bytes))
+}
+
+/// The count of pairs listed in plain order.
+pub fn plain_order(list: &[i32], bytes: &mut [u8]) -> usize {
+  order_pairs::plain_order(list, bytes).count
+}
+
+fn as_swept(told: bentley_ottmann::Swept) -> Swept {
   Swept {
     number: told.number,
     place: told.place,
@@ -62,7 +77,7 @@ fn as_told(chart: &Chart, step: &told::Step) -> Result<Step, String> {
   let mut listed = pairs(&step.listed);
   listed.sort();
   let waiting_numbers: Vec<Pair> = waiting.iter().map(|(pair, _)| *pair).collect();
-  if [marked(step, WAITING), marked(step, LISTED)] != [waiting_numbers, listed] {
+  if marked(step) != [waiting_numbers, listed] {
     return Err(says("marks that tell of other pairs"));
   }
   let (x, y, d) = step.visited;
@@ -89,9 +104,12 @@ fn waiting_pairs(chart: &Chart, step: &told::Step) -> Result<Vec<(Pair, Point)>,
   step.waiting.iter().map(crossing).collect()
 }
 
-fn marked(step: &told::Step, mark: u8) -> Vec<Pair> {
-  let cells = (0..step.marks.len()).filter(|c| step.marks[*c] == mark);
-  cells.map(pair_of).collect()
+/// The pairs with the mark of those that wait, and those with any other.
+fn marked(step: &told::Step) -> [Vec<Pair>; 2] {
+  let cells = step.marks.iter().enumerate();
+  let marked = cells.filter(|(_, mark)| **mark != 0);
+  let (waiting, others): (Vec<_>, Vec<_>) = marked.partition(|(_, mark)| **mark == WAITING);
+  [waiting, others].map(|cells| cells.into_iter().map(|(cell, _)| pair_of(cell)).collect())
 }
 
 /// The pieces of a pair's number.

@@ -8,8 +8,8 @@ use crate::lent::{self, SPARE};
 use crate::refusals::{damaged, numbers, verdict};
 use crate::{file, library};
 
-/// "a lent buffer of at least 833 bytes"
-pub const ROOM: usize = 1 + 13 * MOST_PIECES;
+/// "a lent buffer of at least 2,602 bytes"
+pub const ROOM: usize = 2 + 13 * MOST_PIECES;
 
 /// The chart's file, into room enough and into less, and read again; and the refusals of its damaged lists.
 pub fn compare(case: &Case) -> Result<(), String> {

@@ -1,0 +1,2 @@
+-- The statements of specs/Demand, proved.
+pub mod Older
