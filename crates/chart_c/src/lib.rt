@@ -70,7 +70,7 @@ pub extern "C" fn mirtalughe_compare_points(
         y: y2,
         d: d2,
     };
-    match fractions::compare_points(p, q) {
+    match comparison::compare_points(p, q) {
         Order::Less => -1,
         Order::Equal => 0,
         Order::Greater => 1,

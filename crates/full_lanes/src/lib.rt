@@ -168,7 +168,7 @@ pub fn lane_first(table: &[i16], active: &[u8], k: usize, key: u32, x: i16, y: i
     requires { ⌜ Taken (now table) (now active) (length (now active)) k key ⌝ }
     ensures { λ r. ⌜ r ≡ isLess (pointOrder (meetingAt (now (table .entry)) (now (active .entry)) k) (wholeOf x y)) ⌝ }
 {
-    let end = fractions::whole(x, y);
+    let end = lowest_terms::whole(x, y);
     let other = key_of(end);
     if key < other {
         return true;

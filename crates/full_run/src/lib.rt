@@ -24,7 +24,7 @@ fn last_at(steps: u32, p: Point) -> Last
     if steps == 0 {
         Last::None
     } else {
-        Last::At(fractions::lowest(p.x, p.y, p.d))
+        Last::At(lowest_terms::lowest(p.x, p.y, p.d))
     }
 }
 

@@ -86,7 +86,7 @@ fn at_end(
     let hi = widen_up(table, active, live, spot, lo);
     step(
         table,
-        fractions::whole(x, y),
+        lowest_terms::whole(x, y),
         spot,
         active,
         lanes,
@@ -126,7 +126,7 @@ pub fn visit(
         };
     }
     let to = pass(ends, passed);
-    let point = fractions::whole(end_x(key), end_y(key));
+    let point = lowest_terms::whole(end_x(key), end_y(key));
     let at = at_end(
         table,
         key,

@@ -46,9 +46,9 @@ fn along(s: LineSegment) -> Where
 {
     let min = s.min;
     let max = s.max;
-    let from = fractions::whole(min.x, min.y);
-    let to = fractions::whole(max.x, max.y);
-    match fractions::compare_points(from, to) {
+    let from = lowest_terms::whole(min.x, min.y);
+    let to = lowest_terms::whole(max.x, max.y);
+    match comparison::compare_points(from, to) {
         Order::Less => Where::Along(from, to),
         Order::Equal => Where::At(from),
         Order::Greater => Where::Along(from, to),

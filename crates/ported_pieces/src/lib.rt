@@ -54,7 +54,7 @@ pub fn end_point(table: &[i16], e: u16) -> Point
     ensures { λ r. ⌜ ((n : ℕ) → r ≡ endOf (chartIn n (now (table .entry))) e) ⌝ }
 {
     let at = place_of(e);
-    fractions::whole(number(table, at), number(table, at + 1))
+    lowest_terms::whole(number(table, at), number(table, at + 1))
 }
 
 // End a stands before end b.
@@ -81,7 +81,7 @@ pub fn end_before(table: &[i16], a: u16, b: u16) -> bool
 pub fn less(p: Point, q: Point) -> bool
     ensures { λ r. ⌜ r ≡ isLess (pointOrder p q) ⌝ }
 {
-    match fractions::compare_points(p, q) {
+    match comparison::compare_points(p, q) {
         Order::Less => true,
         Order::Equal => false,
         Order::Greater => false,
@@ -91,7 +91,7 @@ pub fn less(p: Point, q: Point) -> bool
 pub fn same(p: Point, q: Point) -> bool
     ensures { λ r. ⌜ r ≡ isEqual (pointOrder p q) ⌝ }
 {
-    match fractions::compare_points(p, q) {
+    match comparison::compare_points(p, q) {
         Order::Less => false,
         Order::Equal => true,
         Order::Greater => false,

@@ -4,7 +4,7 @@ use line_segment::EndPoint;
 use line_segment::Meeting;
 
 fn write_end(e: EndPoint) {
-    let p = fractions::whole(e.x, e.y);
+    let p = lowest_terms::whole(e.x, e.y);
     text::signed(b" ", p.x);
     text::signed(b" ", p.y);
     if e.included {
