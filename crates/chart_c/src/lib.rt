@@ -106,7 +106,7 @@ pub extern "C" fn mirtalughe_fold(m: u32, h: u32, s: u32, list: &mut [i32]) -> A
 pub extern "C" fn mirtalughe_meeting(list: &[i32]) -> Met
     ensures { λ r. ⌜ r ≡ fieldsOf (meetingOf (now (list .entry))) ⌝ }
 {
-    let answer = charts::meeting_of(list);
+    let answer = chart_verdict::meeting_of(list);
     let meeting = answer.meeting;
     c_records::fields(answer.number, answer.place, meeting)
 }

@@ -122,7 +122,7 @@ fn fault_at(list: &[i32; NUMBERS], p: usize) -> u8
     ensures { λ r. ⌜ r ≡ faultAt (now (list .entry)) p ⌝ }
 {
     let first = 5 * p;
-    charts::fault_of(
+    piece_fault::fault_of(
         list[first],
         list[first + 1],
         list[first + 2],
@@ -196,10 +196,10 @@ pub fn read(file: &[u8], list: &mut [i32]) -> Answer
     ensures { λ r. ⌜ Reads (now (file .entry)) (now (list .entry)) r (now (list .exit)) ⌝ }
 {
     if list.len() < NUMBERS {
-        return charts::refused(8, 0);
+        return chart_verdict::refused(8, 0);
     }
     match count_at(file) {
-        Groups::Fault(f) => charts::refused(f, 0),
+        Groups::Fault(f) => chart_verdict::refused(f, 0),
         Groups::Value(n, next) => {
             let count = n as usize;
             let mut numbers = [0i32; NUMBERS];
@@ -207,13 +207,13 @@ pub fn read(file: &[u8], list: &mut [i32]) -> Answer
             let number = stop.number;
             let place = stop.place;
             if number != 0 {
-                return charts::refused(number, place);
+                return chart_verdict::refused(number, place);
             }
             if place < file.len() {
-                return charts::refused(7, place);
+                return chart_verdict::refused(7, place);
             }
             put(&numbers, 5 * count, list);
-            charts::done(count)
+            chart_verdict::done(count)
         }
     }
 }

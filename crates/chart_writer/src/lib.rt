@@ -68,7 +68,7 @@ fn put_pieces(list: &[i32], n: usize, out: &mut [u8], at: usize) -> usize
 fn writing_of(list: &[i32], lent: usize) -> Verdict
     ensures { λ r. ⌜ r ≡ writingOf (now (list .entry)) lent ⌝ }
 {
-    match charts::verdict_of(list) {
+    match chart_verdict::verdict_of(list) {
         Verdict::Refused(number, place) => Verdict::Refused(number, place),
         Verdict::Accepted(n) => {
             if lent < LONGEST {
@@ -86,10 +86,10 @@ pub fn write(list: &[i32], out: &mut [u8]) -> Answer
     ensures { λ r. ⌜ Writes (now (list .entry)) (now (out .entry)) r (now (out .exit)) ⌝ }
 {
     match writing_of(list, out.len()) {
-        Verdict::Refused(number, place) => charts::refused(number, place),
+        Verdict::Refused(number, place) => chart_verdict::refused(number, place),
         Verdict::Accepted(n) => {
             let next = put_groups(n as u32, out, 0);
-            charts::done(put_pieces(list, n, out, next))
+            chart_verdict::done(put_pieces(list, n, out, next))
         }
     }
 }

@@ -38,7 +38,7 @@ fn sweep_pieces(list: &[i32], n: usize, budget: u32, pairs: &mut [u8]) -> Swept
 pub fn sweep(list: &[i32], budget: u32, pairs: &mut [u8]) -> Swept
     ensures { λ r. ⌜ (r ≡ sweepOf (now (list .entry)) budget (length (now (pairs .entry)))) × (now (pairs .exit) ≡ lentAfter (now (list .entry)) budget (now (pairs .entry))) ⌝ }
 {
-    match charts::listing_of(list, pairs.len()) {
+    match chart_verdict::listing_of(list, pairs.len()) {
         Verdict::Refused(number, place) => bentley_ottmann::refused(number, place),
         Verdict::Accepted(n) => sweep_pieces(list, n, budget, pairs),
     }

@@ -140,10 +140,10 @@ pub fn draw(m: usize, h: usize, s: usize, out: &mut [i32]) -> Answer
     ensures { λ r. ⌜ Draws m h s (now (out .entry)) r (now (out .exit)) ⌝ }
 {
     match drawing_of(m, h, s, out.len()) {
-        Verdict::Refused(number, place) => charts::refused(number, place),
+        Verdict::Refused(number, place) => chart_verdict::refused(number, place),
         Verdict::Accepted(n) => {
             put_pieces(m, h, s, n, out);
-            charts::done(n)
+            chart_verdict::done(n)
         }
     }
 }

@@ -52,7 +52,7 @@ pub fn put_listing(file: &[u8], text: &mut [u8]) -> Answer
     ensures { λ r. ⌜ (r ≡ listingAnswer (now (file .entry)) (length (now (text .entry)))) × (now (text .exit) ≡ lentAfter (now (file .entry)) (now (text .entry))) ⌝ }
 {
     if text.len() < LONGEST {
-        return charts::refused(8, 0);
+        return chart_verdict::refused(8, 0);
     }
-    charts::done(put_file(file, text))
+    chart_verdict::done(put_file(file, text))
 }

@@ -4,6 +4,7 @@ ghost use Rattle.decimals.specs.Text.{text as Text·text, put};
 ghost use Rattle.charts.specs.Piece.{pieceAt};
 ghost use Rattle.place.specs.Place.{whereOf};
 ghost use Rattle.listing_lines.specs.Lines.{countLine, completeLine, numberText, pointText, endText, placeText, pairLine, pairsIn, pairLines};
+use chart_pieces::piece_at;
 use fractions::Point;
 use place::Where;
 
@@ -79,7 +80,7 @@ fn put_pair(list: &[i32], text: &mut [u8], end: usize, a: u8, b: u8) -> usize
 {
     let i = a as usize;
     let j = b as usize;
-    let found = place::exact(charts::piece_at(list, i), charts::piece_at(list, j));
+    let found = place::exact(piece_at(list, i), piece_at(list, j));
     let named = decimals::put_word(text, end, b"pair ");
     let first = decimals::put_natural(text, named, a as u64);
     let spaced = decimals::put_byte(text, first, b' ');

@@ -31,7 +31,7 @@ pub fn pieces_of(list: &[i32], n: usize) -> Pieces
 {
     let mut all = [segment_test::piece(0, 0, 0, 0, 0); MOST];
     for i in 0..n {
-        all[i] = charts::piece_at(list, i);
+        all[i] = chart_pieces::piece_at(list, i);
     }
     Pieces { all }
 }
@@ -119,8 +119,8 @@ pub fn list_pairs(pieces: Pieces, n: usize, pairs: &mut [u8]) -> usize
 pub fn all_pairs(list: &[i32], pairs: &mut [u8]) -> Answer
     ensures { λ r. ⌜ (r ≡ allPairsOf (now (list .entry)) (length (now (pairs .entry)))) × (now (pairs .exit) ≡ lentAfter (now (list .entry)) (now (pairs .entry))) ⌝ }
 {
-    match charts::listing_of(list, pairs.len()) {
-        Verdict::Refused(number, place) => charts::refused(number, place),
-        Verdict::Accepted(n) => charts::done(list_pairs(pieces_of(list, n), n, pairs)),
+    match chart_verdict::listing_of(list, pairs.len()) {
+        Verdict::Refused(number, place) => chart_verdict::refused(number, place),
+        Verdict::Accepted(n) => chart_verdict::done(list_pairs(pieces_of(list, n), n, pairs)),
     }
 }

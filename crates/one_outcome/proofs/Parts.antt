@@ -4,7 +4,7 @@
 use mathlib.Core.Path.{refl, sym, _∙_}
 use denote.Ref.{now}
 use Rattle.integers.specs.Outcome.{OneResult, OneOutcome}
-use Rattle.charts.proofs.room_of.Reads as room-of
+use Rattle.chart_verdict.proofs.room_of.Reads as room-of
 use Rattle.open_changes.proofs.is_used.Reads as is-used
 use Rattle.full_ends.proofs.end_x.Reads as end-x
 use Rattle.full_ends.proofs.end_y.Reads as end-y

@@ -33,7 +33,7 @@ use Rattle.charts.specs.Piece.{pieceAt}
 use Rattle.charts.proofs.Accepted.{pieces-have-length}
 use Rattle.charts.proofs.Exactly.{refuses-exactly}
 use Rattle.charts.proofs.Ten.{pair-refuses-exactly}
-use Rattle.charts.proofs.meeting_of.Reads as meeting
+use Rattle.chart_verdict.proofs.meeting_of.Reads as meeting
 use Rattle.sweep.proofs.Tests.{clash}
 use Rattle.place.specs.declared.Place.{Place}
 use Rattle.place.specs.declared.Where.{Where}

@@ -5,6 +5,7 @@ ghost use lib.IntN.{natAbs};
 ghost use Rattle.place.specs.Binary64.{nearest};
 ghost use Rattle.place.specs.Pair.{placeAnswerOf};
 ghost use Rattle.place.specs.Place.{alongOf, whereOf, placeOf, Held, nearestPoint};
+use chart_pieces::piece_at;
 use charts::Verdict;
 use fractions::Order;
 use fractions::Point;
@@ -101,7 +102,7 @@ pub fn place_of(a: LineSegment, b: LineSegment) -> Place
 pub fn pair_place(list: &[i32]) -> PlaceAnswer
     ensures { λ r. ⌜ r ≡ placeAnswerOf (now (list .entry)) ⌝ }
 {
-    match charts::pair_verdict_of(list) {
+    match chart_verdict::pair_verdict_of(list) {
         Verdict::Refused(number, place) => PlaceAnswer {
             number,
             place,
@@ -110,7 +111,7 @@ pub fn pair_place(list: &[i32]) -> PlaceAnswer
         Verdict::Accepted(_) => PlaceAnswer {
             number: 0,
             place: 0,
-            meeting: place_of(charts::piece_at(list, 0), charts::piece_at(list, 1)),
+            meeting: place_of(piece_at(list, 0), piece_at(list, 1)),
         },
     }
 }

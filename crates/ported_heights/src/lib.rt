@@ -4,7 +4,7 @@ ghost use mathlib.Core.Path.{_≡_};
 ghost use Rattle.fractions.specs.Order.{turned};
 ghost use Rattle.sweep.specs.Ported.{heightOrder, slopeOrder};
 ghost use Rattle.ported_heights.specs.Heights.{lineOrder, levelAt};
-use charts::is_upright;
+use chart_pieces::is_upright;
 use comparison::compare_ratios;
 use fractions::Order;
 use fractions::Point;

@@ -115,7 +115,7 @@ fn held_to(pieces: Pieces, n: usize, bytes: &[u8]) -> Checked
 fn supplied_of(list: &[i32], bytes: usize) -> Verdict
     ensures { λ r. ⌜ r ≡ suppliedOf (now (list .entry)) bytes ⌝ }
 {
-    match charts::verdict_of(list) {
+    match chart_verdict::verdict_of(list) {
         Verdict::Refused(number, place) => Verdict::Refused(number, place),
         Verdict::Accepted(n) => {
             if bytes % 2 != 0 {

@@ -47,8 +47,8 @@ pub fn sweep_batch(list: &[i32], lengths: &[usize], pairs: &mut [u8], results: &
 {
     let number = batch_refusals::refusal_of(list.len(), lengths, pairs.len(), results.len());
     if number != 0 {
-        return charts::refused(number, 0);
+        return chart_verdict::refused(number, 0);
     }
     sweep_charts(list, lengths, pairs, results);
-    charts::done(lengths.len())
+    chart_verdict::done(lengths.len())
 }
