@@ -126,7 +126,7 @@ pub extern "C" fn mirtalughe_place(list: &[i32]) -> Placed
 pub extern "C" fn mirtalughe_all_pairs(list: &[i32], pairs: &mut [u8]) -> Answer
     ensures { λ r. ⌜ (r ≡ allPairsOf (now (list .entry)) (length (now (pairs .entry)))) × (now (pairs .exit) ≡ lentAfter (now (list .entry)) (now (pairs .entry))) ⌝ }
 {
-    naive::all_pairs(list, pairs)
+    all_pairs::all_pairs(list, pairs)
 }
 
 // The pairs that meet of a chart without upright pieces, two bytes a pair, in the order of their first common points.

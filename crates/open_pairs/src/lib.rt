@@ -74,7 +74,7 @@ pub fn all_pairs(chart: &[i32], pairs: &mut [u8]) -> Answer
     }
     let all = standing.all;
     let names = standing.names;
-    let k = naive::list_pairs(Pieces { all }, n, pairs);
+    let k = all_pairs::list_pairs(Pieces { all }, n, pairs);
     rename(&names, pairs, 2 * k);
     chart_verdict::done(k)
 }

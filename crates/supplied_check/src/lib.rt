@@ -57,7 +57,7 @@ fn mark_entries(pieces: Pieces, n: usize, bytes: &[u8], marks: &mut [bool]) -> F
         if a == b {
             return First::At(i, ITSELF);
         }
-        if !naive::meets(all[a], all[b]) {
+        if !quick_test::meets(all[a], all[b]) {
             return First::At(i, APART);
         }
         if marks[a * MOST + b] {
@@ -76,7 +76,7 @@ fn is_missing(named: bool, asking: LineSegment, other: LineSegment) -> bool
     if named {
         return false;
     }
-    naive::meets(asking, other)
+    quick_test::meets(asking, other)
 }
 
 // The first pair, for a from 0, for b below a, that meets and is not marked.
@@ -133,6 +133,6 @@ pub fn check(list: &[i32], bytes: &[u8]) -> Checked
 {
     match supplied_of(list, bytes.len()) {
         Verdict::Refused(number, place) => Checked::Refused(number, place),
-        Verdict::Accepted(n) => held_to(naive::pieces_of(list, n), n, bytes),
+        Verdict::Accepted(n) => held_to(all_pairs::pieces_of(list, n), n, bytes),
     }
 }

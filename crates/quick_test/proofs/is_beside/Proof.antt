@@ -1,11 +1,11 @@
--- `naive::is_beside` meets its contract: both ends are on one side.
+-- `quick_test::is_beside` meets its contract: both ends are on one side.
 use borrow.Author.Needs.{needs}
 use mathlib.Core.Path.{ap₂, _∙_}
 use mir.Syntax.{w64}
 use Rattle.charts.proofs.Numbers.{told}
 use Rattle.naive.specs.Sides.{oneSide, besideOf}
-use Rattle.naive.proofs.is_beside.Statement.{statement}
-use Rattle.naive.proofs.is_beside.Tie as tie
+use Rattle.quick_test.proofs.is_beside.Statement.{statement}
+use Rattle.quick_test.proofs.is_beside.Tie as tie
 
 side-of-requires : tie.Need-side-of-requires
 side-of-requires c κs = search needs

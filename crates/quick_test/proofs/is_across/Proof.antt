@@ -1,11 +1,11 @@
--- `naive::is_across` meets its contract: the ends are on two sides.
+-- `quick_test::is_across` meets its contract: the ends are on two sides.
 use borrow.Author.Needs.{needs}
 use mathlib.Core.Path.{ap₂, _∙_}
 use mir.Syntax.{w64}
 use Rattle.charts.proofs.Numbers.{told}
 use Rattle.naive.specs.Sides.{twoSides, acrossOf}
-use Rattle.naive.proofs.is_across.Statement.{statement}
-use Rattle.naive.proofs.is_across.Tie as tie
+use Rattle.quick_test.proofs.is_across.Statement.{statement}
+use Rattle.quick_test.proofs.is_across.Tie as tie
 
 side-of-requires : tie.Need-side-of-requires
 side-of-requires c κs = search needs

@@ -1,4 +1,4 @@
--- `naive::list_pairs` meets its contract: the rows below a are written, and of row a the pairs below b.
+-- `all_pairs::list_pairs` meets its contract: the rows below a are written, and of row a the pairs below b.
 use borrow.Author.Needs.{needs}
 use mathlib.Core.Path.{_≡_, sym, ap, _∙_}
 use mathlib.Core.Logic.{⊎-elim}
@@ -6,11 +6,11 @@ use Prim.Native.Nat.{_≤_, _-_, _+_, _*_}
 use native.Mathlib.Omega.{arith}
 use lib.ListN.{length, length-set}
 use lib.Seq.{sets, length-sets}
 use Rattle.naive.specs.Pairs.{row, rows, bytes}
 use Rattle.naive.specs.Decoded.{meetsIn}
 use Rattle.naive.proofs.Turns.{rows-begin, row-begins, pair-listed, pair-passed, has-room, row-full, rows-end}
-use Rattle.naive.proofs.list_pairs.Statement.{statement}
-use Rattle.naive.proofs.list_pairs.Tie as tie
+use Rattle.all_pairs.proofs.list_pairs.Statement.{statement}
+use Rattle.all_pairs.proofs.list_pairs.Tie as tie
 
 abbrev Inv-loop2 : tie.InvT-loop2
 Inv-loop2 n pairs₀ all k₀ a asking b₀ pairs k b = (b ≤ a) × (k ≡ k₀ + length (row (meetsIn all) a b)) × (pairs ≡ sets pairs₀ (2 * k₀) (bytes (row (meetsIn all) a b)))

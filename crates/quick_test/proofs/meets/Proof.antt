@@ -1,10 +1,10 @@
--- `naive::meets` meets its contract: where sides settle it, by the meaning of the test, and else by its answer.
+-- `quick_test::meets` meets its contract: where sides settle it, by the meaning of the test, and else by its answer.
 use borrow.Author.Needs.{needs}
 use mathlib.Core.Path.{sym, ap, _∙_}
 use Rattle.line_segment.specs.Demand.{saysYes}
 use Rattle.naive.proofs.Apart.{beside-apart, across-meet}
-use Rattle.naive.proofs.meets.Statement.{statement}
-use Rattle.naive.proofs.meets.Tie as tie
+use Rattle.quick_test.proofs.meets.Statement.{statement}
+use Rattle.quick_test.proofs.meets.Tie as tie
 
 is-beside-requires : tie.Need-is-beside-requires
 is-beside-requires c κs = search needs

@@ -1,8 +1,8 @@
--- `naive::on_two_sides` meets its contract: both signs are asked.
+-- `quick_test::on_two_sides` meets its contract: both signs are asked.
 use mir.Facts.{toZ-ofZ}
 use Rattle.naive.specs.Sides.{twoSides}
-use Rattle.naive.proofs.on_two_sides.Statement.{statement}
-use Rattle.naive.proofs.on_two_sides.Tie as tie
+use Rattle.quick_test.proofs.on_two_sides.Statement.{statement}
+use Rattle.quick_test.proofs.on_two_sides.Tie as tie
 
 returns : tie.Need-returns
 unfolding twoSides

@@ -1,8 +1,8 @@
--- `naive::on_one_side` meets its contract: both signs are asked.
+-- `quick_test::on_one_side` meets its contract: both signs are asked.
 use mir.Facts.{toZ-ofZ}
 use Rattle.naive.specs.Sides.{oneSide}
-use Rattle.naive.proofs.on_one_side.Statement.{statement}
-use Rattle.naive.proofs.on_one_side.Tie as tie
+use Rattle.quick_test.proofs.on_one_side.Statement.{statement}
+use Rattle.quick_test.proofs.on_one_side.Tie as tie
 
 returns : tie.Need-returns
 unfolding oneSide

@@ -1,14 +1,14 @@
--- `naive::pieces_of` meets its contract: below i the array holds the pieces of the list.
+-- `all_pairs::pieces_of` meets its contract: below i the array holds the pieces of the list.
 use borrow.Author.Needs.{needs}
 use mathlib.Core.Path.{_≡_, refl, sym, _∙_}
 use Prim.Native.Nat.{_≤_, _-_}
 use native.Mathlib.Omega.{arith}
 use lib.ListN.{length, take, length-set}
 use Rattle.charts.specs.Chart.{most}
 use Rattle.naive.specs.Decoded.{piecesOf}
 use Rattle.naive.proofs.Stored.{pieces-none, piece-stored}
-use Rattle.naive.proofs.pieces_of.Statement.{statement}
-use Rattle.naive.proofs.pieces_of.Tie as tie
+use Rattle.all_pairs.proofs.pieces_of.Statement.{statement}
+use Rattle.all_pairs.proofs.pieces_of.Tie as tie
 
 abbrev Inv-loop : tie.InvT-loop
 Inv-loop list n all₀ i₀ all i = (i ≤ n) × (length all ≡ most) × (take i all ≡ piecesOf list i)

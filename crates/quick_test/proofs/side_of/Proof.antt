@@ -1,4 +1,4 @@
--- `naive::side_of` meets its contract: the determinant is the side, over one.
+-- `quick_test::side_of` meets its contract: the determinant is the side, over one.
 use borrow.Author.Needs.{needs}
 use mathlib.Core.Path.{_≡_, _∙_}
 use mir.Syntax.{w64}
@@ -11,8 +11,8 @@ use Rattle.line_segment.specs.declared.LineSegment.{LineSegment}
 use Rattle.line_segment.specs.Piece.{pointOf}
 use Rattle.line_segment.specs.Geometry.{run, rise, side}
 use Rattle.charts.proofs.Numbers.{told}
-use Rattle.naive.proofs.side_of.Statement.{statement}
-use Rattle.naive.proofs.side_of.Tie as tie
+use Rattle.quick_test.proofs.side_of.Statement.{statement}
+use Rattle.quick_test.proofs.side_of.Tie as tie
 
 determinant-requires : tie.Need-determinant-requires
 determinant-requires c κs = search needs

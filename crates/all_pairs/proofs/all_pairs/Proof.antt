@@ -1,4 +1,4 @@
--- `naive::all_pairs` meets its contract: by the verdict on the list and its room.
+-- `all_pairs::all_pairs` meets its contract: by the verdict on the list and its room.
 use borrow.Author.Needs.{needs}
 use mathlib.Core.Path.{_≡_, sym, ap, _∙_}
 use mathlib.Core.List.{List}
@@ -10,11 +10,11 @@ use Rattle.charts.specs.Answer.{doneWith, listingOf}
 use Rattle.charts.specs.declared.Verdict.the-variants.{Accepted}
 use Rattle.charts.proofs.Accepted.{accepted-most}
 use Rattle.charts.proofs.Listing.{listing-goes}
 use Rattle.naive.specs.Pairs.{Pair, bytes, over}
 use Rattle.naive.proofs.Stored.{same-pairs, stored-long}
 use Rattle.naive.proofs.Outcomes.{refused-outcome, done-outcome}
-use Rattle.naive.proofs.all_pairs.Statement.{statement}
-use Rattle.naive.proofs.all_pairs.Tie as tie
+use Rattle.all_pairs.proofs.all_pairs.Statement.{statement}
+use Rattle.all_pairs.proofs.all_pairs.Tie as tie
 
 listing-of-requires : tie.Need-listing-of-requires
 listing-of-requires c κs = search needs
