@@ -82,7 +82,7 @@ pub extern "C" fn mirtalughe_compare_points(
 pub extern "C" fn mirtalughe_read(file: &[u8], list: &mut [i32]) -> Answer
     ensures { λ r. ⌜ Reads (now (file .entry)) (now (list .entry)) r (now (list .exit)) ⌝ }
 {
-    chart_file::read(file, list)
+    file_reader::read(file, list)
 }
 
 // Writes a chart's file into lent bytes.

@@ -38,7 +38,7 @@ fn put_file(file: &[u8], text: &mut [u8]) -> usize
     ensures { λ r. ⌜ Text·text (now (text .exit)) r ≡ put (listingOf (now (file .entry))) (Text·text (now (text .entry)) 0) ⌝ }
 {
     let mut list = [0i32; chart_file::NUMBERS];
-    let read = chart_file::read(file, &mut list);
+    let read = file_reader::read(file, &mut list);
     let number = read.number;
     if number != 0 {
         return listing_lines::put_count(text, 0, b"refused ", number as u64);

@@ -106,7 +106,7 @@ fn print_list(number: u8, list: &[i32])
 // Prints the listing of a file.
 pub fn print(file: &[u8]) {
     let mut list = [0i32; chart_file::NUMBERS];
-    let read = chart_file::read(file, &mut list);
+    let read = file_reader::read(file, &mut list);
     let end = 5 * read.count;
     print_list(read.number, &list[..end]);
 }

@@ -23,7 +23,7 @@ fn answer(asked: u8, file: &[u8], list: &[i32]) {
 
 fn replay(asked: u8, file: &[u8]) {
     let mut list = [0i32; chart_file::NUMBERS];
-    let read = chart_file::read(file, &mut list);
+    let read = file_reader::read(file, &mut list);
     if read.number == 0 {
         let end = 5 * read.count;
         answer(asked, file, &list[..end]);

@@ -4,10 +4,10 @@ use mathlib.Core.Path.{sym, ap, _∙_}
 use lib.IntN.{ℤ}
 use mir.Syntax.{w32}
 use mir.Facts.{toZ-ofZ}
 use Rattle.chart_file.specs.declared.Number.the-variants.{Read}
 use Rattle.chart_file.proofs.Numbers.{coordinate-fault, coordinate-wrong, coordinate-right}
-use Rattle.chart_file.proofs.coordinate_at.Statement.{statement}
-use Rattle.chart_file.proofs.coordinate_at.Tie as tie
+use Rattle.file_numbers.proofs.coordinate_at.Statement.{statement}
+use Rattle.file_numbers.proofs.coordinate_at.Tie as tie
 
 returns : tie.Need-returns
 returns c =

@@ -6,10 +6,10 @@ use native.Mathlib.Omega.{arith}
 use lib.IntN.{ℤ}
 use mir.Syntax.{w32}
 use mir.Facts.{toZ-pos}
 use Rattle.chart_file.specs.declared.Number.the-variants.{Read}
 use Rattle.chart_file.proofs.Numbers.{kind-due, kind-wrong, kind-right}
-use Rattle.chart_file.proofs.kind_at.Statement.{statement}
-use Rattle.chart_file.proofs.kind_at.Tie as tie
+use Rattle.file_numbers.proofs.kind_at.Statement.{statement}
+use Rattle.file_numbers.proofs.kind_at.Tie as tie
 
 returns : tie.Need-returns
 returns c = let a = c .before .args in sym (kind-due (a .file .now) (a .at) (omega arith))

@@ -9,9 +9,9 @@ use lib.IntN.{ℤ, pos, negsuc, _-ℤ_}
 use mir.Syntax.{w32}
 use mir.Val.{SFits, toZ}
 use mir.Facts.{toZ-ofZ, toZ-pos}
 use Rattle.chart_file.specs.Coordinate.{signedOf}
-use Rattle.chart_file.proofs.signed.Statement.{statement}
-use Rattle.chart_file.proofs.signed.Tie as tie
+use Rattle.file_numbers.proofs.signed.Statement.{statement}
+use Rattle.file_numbers.proofs.signed.Tie as tie
 
 below : (h : ℕ) → negsuc 0 -ℤ pos h ≡ negsuc h
 below zero = refl

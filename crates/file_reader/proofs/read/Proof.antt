@@ -7,11 +7,11 @@ use lib.IntN.{ℤ, pos}
 use lib.ListN.{length, take, length-replicate}
 use lib.Seq.{length-take-le}
 use Rattle.charts.specs.Chart.{most}
 use Rattle.chart_file.specs.declared.Groups.the-variants.{Value}
 use Rattle.chart_file.specs.Reading.{countAt, pieces, ended, lentReading}
 use Rattle.chart_file.proofs.Whole.{too-little, no-count, some-pieces, count-most, left-length, ended-refused, ended-extra, ended-there, answers-refusal, answers-chart}
-use Rattle.chart_file.proofs.read.Statement.{statement}
-use Rattle.chart_file.proofs.read.Tie as tie
+use Rattle.file_reader.proofs.read.Statement.{statement}
+use Rattle.file_reader.proofs.read.Tie as tie
 
 returns : tie.Need-returns
 returns c =

@@ -1,9 +1,9 @@
 -- `count_at`: each return stands at the count that the groups and the limit lead to.
 use borrow.Author.Needs.{needs}
 use mathlib.Core.Path.{sym, _∙_}
 use Rattle.chart_file.proofs.Numbers.{count-refused, count-many, count-few}
-use Rattle.chart_file.proofs.count_at.Statement.{statement}
-use Rattle.chart_file.proofs.count_at.Tie as tie
+use Rattle.file_numbers.proofs.count_at.Statement.{statement}
+use Rattle.file_numbers.proofs.count_at.Tie as tie
 
 returns : tie.Need-returns
 returns c =

@@ -11,8 +11,8 @@ use lib.ListN.{length, getD, set, take, drop, length-set}
 use lib.Seq.{paste, paste-suc}
 use mir.Syntax.{w32}
 use mir.Facts.{toZ-ofZ}
-use Rattle.chart_file.proofs.put.Statement.{statement}
-use Rattle.chart_file.proofs.put.Tie as tie
+use Rattle.file_reader.proofs.put.Statement.{statement}
+use Rattle.file_reader.proofs.put.Tie as tie
 
 abbrev Inv-loop : tie.InvT-loop
 Inv-loop numbers n list₀ i₀ list i = (i ≤ n) × (length list ≡ length list₀) × (list ≡ paste list₀ 0 numbers i)

@@ -7,9 +7,9 @@ use native.Mathlib.Omega.{arith}
 use borrow.Author.Tests.{eqb-true, eqb-false}
 use native.Mathlib.Nat.{mul-le-mul-left}
 use lib.Dec.{lit≤}
 use Rattle.chart_file.proofs.Passed.{Passed, none-passed, one-passed, passed-value, passed-zero, passed-end, passed-most}
-use Rattle.chart_file.proofs.groups_at.Statement.{statement}
-use Rattle.chart_file.proofs.groups_at.Tie as tie
+use Rattle.file_numbers.proofs.groups_at.Statement.{statement}
+use Rattle.file_numbers.proofs.groups_at.Tie as tie
 
 abbrev Inv-loop : tie.InvT-loop
 Inv-loop file at value₀ weight₀ i₀ g₀ value weight i g = (g ≤ 3) × Passed file at g i value weight

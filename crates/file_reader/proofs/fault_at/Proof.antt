@@ -10,8 +10,8 @@ use mir.Facts.{toZ-ofZ}
 use Rattle.charts.specs.Fault.{faultOf}
 use Rattle.charts.specs.Chart.{numberAt, faultAt}
 use borrow.Author.Needs.{needs}
-use Rattle.chart_file.proofs.fault_at.Statement.{statement}
-use Rattle.chart_file.proofs.fault_at.Tie as tie
+use Rattle.file_reader.proofs.fault_at.Statement.{statement}
+use Rattle.file_reader.proofs.fault_at.Tie as tie
 
 said : (list : List ℤ) (p r : ℕ) (k x1 y1 x2 y2 : ℤ) → r ≡ faultOf k x1 y1 x2 y2
     → k ≡ getD list (5 * p) (pos 0) → x1 ≡ getD list (5 * p + 1) (pos 0) → y1 ≡ getD list (5 * p + 2) (pos 0) → x2 ≡ getD list (5 * p + 3) (pos 0) → y2 ≡ getD list (5 * p + 4) (pos 0)

@@ -8,13 +8,13 @@ use lib.ListN.{length, take, length-set}
 use mir.Syntax.{w32}
 use mir.Facts.{toZ-ofZ}
 use Rattle.charts.specs.Chart.{most, faultAt}
 use Rattle.chart_file.specs.Reading.{kindAt, coordinateAt, due, standsAt, numbers, pieces}
 use Rattle.chart_file.specs.declared.Number.the-variants.{Refused}
 use Rattle.chart_file.proofs.Numbers.{kind-numbered, coordinate-numbered}
 use Rattle.chart_file.proofs.Steps.{piece-short, piece-read, pieces-stay, refused-stays}
 use Rattle.chart_file.proofs.Kept.{coordinate-stands, number-stored, front-fault, left-due, left-stopped}
-use Rattle.chart_file.proofs.pieces.Statement.{statement}
-use Rattle.chart_file.proofs.pieces.Tie as tie
+use Rattle.file_reader.proofs.pieces.Statement.{statement}
+use Rattle.file_reader.proofs.pieces.Tie as tie
 
 abbrev Inv-loop : tie.InvT-loop
 Inv-loop file next count list₀ at₀ fault₀ p start c₀ list at fault c = (1 ≤ c) × (c ≤ 5) × (fault ≡ 0) × (length list ≡ 5 * most) × (numbers file c (pieces file next p) ≡ due (take (5 * p + c) list) at)
