@@ -4,4 +4,5 @@
 pub mod Pairs
 pub mod Found
 pub mod Widths
+pub mod Once
 mod Examples

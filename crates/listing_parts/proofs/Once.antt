@@ -3,7 +3,7 @@
 use mathlib.Core.Path.{sym, _∙_}
 use denote.Ref.{now}
 use Rattle.charts.specs.Outcome.{OneResult, OneOutcome}
-use Rattle.listing.proofs.Once.{one-text}
+use Rattle.decimals.proofs.Once.{one-text}
 use Rattle.listing_parts.proofs.parts_of.Reads as parts-of
 use Rattle.listing_parts.proofs.put_part.Reads as put-part
 

@@ -3,9 +3,9 @@ use borrow.Author.Needs.{needs}
 use mathlib.Core.Path.{_∙_}
 use native.Mathlib.Omega.{arith}
 use Rattle.chart_file.proofs.Counts.{bytes-given}
 use Rattle.listing.proofs.Outcomes.{too-little, listed}
-use Rattle.listing.proofs.put_listing.Statement.{statement}
-use Rattle.listing.proofs.put_listing.Tie as tie
+use Rattle.listing_text.proofs.put_listing.Statement.{statement}
+use Rattle.listing_text.proofs.put_listing.Tie as tie
 
 returns : tie.Need-returns
 returns c =

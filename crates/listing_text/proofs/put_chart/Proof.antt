@@ -8,11 +8,11 @@ use lib.Seq.{length-take-le}
 use Rattle.charts.specs.Chart.{most}
 use Rattle.decimals.specs.Text.{ascii}
 use Rattle.decimals.proofs.Puts.{put-then, put-as}
 use Rattle.listing.specs.Listing.{chartLines}
 use Rattle.listing.proofs.Counts.{most-room, room-few}
 use Rattle.listing.proofs.Sweeps.{Listed, full-sweep}
-use Rattle.listing.proofs.put_chart.Statement.{statement}
-use Rattle.listing.proofs.put_chart.Tie as tie
+use Rattle.listing_text.proofs.put_chart.Statement.{statement}
+use Rattle.listing_text.proofs.put_chart.Tie as tie
 
 full : (c : tie.After-sweep) → let list = c .before .before .before .args .list .now in Listed list (length list / 5) (c .sweep .result) (c .sweep .last .1 .1 .0)
 full c =

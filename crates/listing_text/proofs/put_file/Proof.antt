@@ -9,10 +9,10 @@ use Rattle.chart_file.specs.Groups.{Bytes}
 use Rattle.chart_file.proofs.Counts.{bytes-given, read-most}
 use Rattle.decimals.specs.Text.{ascii}
 use Rattle.decimals.proofs.Puts.{put-as}
 use Rattle.listing.specs.Listing.{textOf, listingOf}
 use Rattle.listing.proofs.Reader.{Charted, refused, charted}
-use Rattle.listing.proofs.put_file.Statement.{statement}
-use Rattle.listing.proofs.put_file.Tie as tie
+use Rattle.listing_text.proofs.put_file.Statement.{statement}
+use Rattle.listing_text.proofs.put_file.Tie as tie
 
 bytes : (q : tie.After-read) → Bytes (q .before .before .before .before .args .file .now)
 bytes q = bytes-given (q .before .before .before .before .args .file .now) (λ i. omega (arith, q .before .before .before .shared-slice-known .given i))
