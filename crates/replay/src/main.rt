@@ -16,7 +16,7 @@ fn answer(asked: u8, file: &[u8], list: &[i32]) {
         b'a' => pairs::write(list),
         b's' => stops::write(list, false),
         b'f' => stops::write(list, true),
-        b'l' => listing_parts::print(file),
+        b'l' => print_parts::print(file),
         _ => text::words(b"asked nothing\n"),
     }
 }

@@ -4,8 +4,8 @@ use mathlib.Core.Path.{sym, _∙_}
 use denote.Ref.{now}
 use Rattle.charts.specs.Outcome.{OneResult, OneOutcome}
 use Rattle.decimals.proofs.Once.{one-text}
-use Rattle.listing_parts.proofs.parts_of.Reads as parts-of
-use Rattle.listing_parts.proofs.put_part.Reads as put-part
+use Rattle.part_text.proofs.parts_of.Reads as parts-of
+use Rattle.part_text.proofs.put_part.Reads as put-part
 
 pub parts-of-once : OneResult parts-of.Post
 parts-of-once κ a x y s t h k = h ∙ sym k

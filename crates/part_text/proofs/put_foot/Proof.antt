@@ -4,9 +4,9 @@ use mathlib.Core.Path.{refl}
 use mathlib.Core.List.{[]}
 use Rattle.decimals.specs.Text.{ascii, put}
 use Rattle.decimals.proofs.Puts.{put-as}
 use Rattle.listing_parts.proofs.Cases.{foot-last, foot-earlier}
-use Rattle.listing_parts.proofs.put_foot.Statement.{statement}
-use Rattle.listing_parts.proofs.put_foot.Tie as tie
+use Rattle.part_text.proofs.put_foot.Statement.{statement}
+use Rattle.part_text.proofs.put_foot.Tie as tie
 
 returns : tie.Need-returns
 unfolding put

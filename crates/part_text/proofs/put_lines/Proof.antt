@@ -8,10 +8,10 @@ use lib.ListN.{take, drop}
 use Rattle.decimals.specs.Text.{put}
 use Rattle.decimals.proofs.Puts.{put-as}
 use Rattle.listing_lines.specs.Lines.{pairsIn, pairLines}
 use Rattle.listing_parts.specs.Parts.{partBytes}
 use Rattle.listing_parts.proofs.Cases.{none-behind, all-left}
-use Rattle.listing_parts.proofs.put_lines.Statement.{statement}
-use Rattle.listing_parts.proofs.put_lines.Tie as tie
+use Rattle.part_text.proofs.put_lines.Statement.{statement}
+use Rattle.part_text.proofs.put_lines.Tie as tie
 
 returns : tie.Need-returns
 unfolding put pairLines

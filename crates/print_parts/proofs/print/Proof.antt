@@ -7,9 +7,9 @@ use lib.Seq.{length-take-le}
 use Rattle.charts.specs.Chart.{most}
 use Rattle.chart_file.specs.Groups.{Bytes}
 use Rattle.chart_file.proofs.Counts.{bytes-given, read-most}
 use Rattle.listing_parts.proofs.Printed.{of-read}
-use Rattle.listing_parts.proofs.print.Statement.{statement}
-use Rattle.listing_parts.proofs.print.Tie as tie
+use Rattle.print_parts.proofs.print.Statement.{statement}
+use Rattle.print_parts.proofs.print.Tie as tie
 
 bytes : (q : tie.After-read) → Bytes (q .before .before .before .args .file .now)
 bytes q = bytes-given (q .before .before .before .args .file .now) (λ i. omega (arith, q .before .before .shared-slice-known .given i))

@@ -2,9 +2,9 @@
 use borrow.Author.Needs.{needs}
 use Rattle.decimals.specs.Text.{ascii}
 use Rattle.decimals.proofs.Puts.{put-then, put-as}
 use Rattle.listing_parts.proofs.Cases.{part-refused, part-charted}
-use Rattle.listing_parts.proofs.put_part.Statement.{statement}
-use Rattle.listing_parts.proofs.put_part.Tie as tie
+use Rattle.part_text.proofs.put_part.Statement.{statement}
+use Rattle.part_text.proofs.put_part.Tie as tie
 
 returns : tie.Need-returns
 unfolding ascii

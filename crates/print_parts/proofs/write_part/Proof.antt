@@ -2,9 +2,9 @@
 use borrow.Author.Needs.{needs}
 use mathlib.Core.Path.{sym}
 use lib.Seq.{length-take-le}
 use Rattle.listing_parts.proofs.Within.{ends-within}
-use Rattle.listing_parts.proofs.write_part.Statement.{statement}
-use Rattle.listing_parts.proofs.write_part.Tie as tie
+use Rattle.print_parts.proofs.write_part.Statement.{statement}
+use Rattle.print_parts.proofs.write_part.Tie as tie
 
 slice-reshare-prefix-write-all : tie.Need-slice-reshare-prefix-write-all
 slice-reshare-prefix-write-all c = ends-within _ _ _ _ (c .before .before .put-part .ensures)

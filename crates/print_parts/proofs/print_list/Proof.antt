@@ -7,10 +7,10 @@ use lib.ListN.{length, take}
 use lib.Seq.{length-take-le}
 use Rattle.charts.specs.Chart.{most}
 use Rattle.listing.proofs.Counts.{most-room}
 use Rattle.listing_parts.specs.Demand.{SweptList}
 use Rattle.listing_parts.proofs.Printed.{of-sweep, pairs-most, part-fits}
-use Rattle.listing_parts.proofs.print_list.Statement.{statement}
-use Rattle.listing_parts.proofs.print_list.Tie as tie
+use Rattle.print_parts.proofs.print_list.Statement.{statement}
+use Rattle.print_parts.proofs.print_list.Tie as tie
 
 abbrev Inv-loop : tie.InvT-loop
 Inv-loop number list pairs swept bytes parts text₀ part₀ text part = (part ≤ parts) × (length text ≡ length text₀)

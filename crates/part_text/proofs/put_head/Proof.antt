@@ -4,9 +4,9 @@ use mathlib.Core.Path.{refl}
 use mathlib.Core.List.{[]}
 use Rattle.decimals.specs.Text.{ascii, put}
 use Rattle.decimals.proofs.Puts.{put-then, put-as}
 use Rattle.listing_parts.proofs.Cases.{head-first, head-later}
-use Rattle.listing_parts.proofs.put_head.Statement.{statement}
-use Rattle.listing_parts.proofs.put_head.Tie as tie
+use Rattle.part_text.proofs.put_head.Statement.{statement}
+use Rattle.part_text.proofs.put_head.Tie as tie
 
 returns : tie.Need-returns
 unfolding put
