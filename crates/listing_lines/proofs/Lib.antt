@@ -4,5 +4,4 @@
 pub mod Pairs
 pub mod Found
 pub mod Widths
-pub mod Once
 mod Examples

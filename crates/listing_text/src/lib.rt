@@ -24,10 +24,10 @@ fn put_chart(list: &[i32], text: &mut [u8]) -> usize
     let swept = full_sweep::sweep(list, u32::MAX, &mut pairs);
     let bytes = 2 * swept.pairs;
     let count = list.len() / 5;
-    let counted = listing_lines::put_count(text, 0, b"chart ", count as u64);
-    let told = listing_lines::put_complete(text, counted, swept.complete);
-    let listed = listing_lines::put_pairs(list, &pairs[..bytes], text, told);
-    listing_lines::put_count(text, listed, b"steps ", swept.steps as u64)
+    let counted = count_lines::put_count(text, 0, b"chart ", count as u64);
+    let told = count_lines::put_complete(text, counted, swept.complete);
+    let listed = pair_lines::put_pairs(list, &pairs[..bytes], text, told);
+    count_lines::put_count(text, listed, b"steps ", swept.steps as u64)
 }
 
 // The text of a file, from the start of the bytes on; where it ends.
@@ -38,7 +38,7 @@ fn put_file(file: &[u8], text: &mut [u8]) -> usize
     let read = file_reader::read(file, &mut list);
     let number = read.number;
     if number != 0 {
-        return listing_lines::put_count(text, 0, b"refused ", number as u64);
+        return count_lines::put_count(text, 0, b"refused ", number as u64);
     }
     let end = 5 * read.count;
     put_chart(&list[..end], text)

@@ -23,8 +23,8 @@ fn put_head(list: &[i32], complete: bool, part: usize, text: &mut [u8]) -> usize
         return 0;
     }
     let count = list.len() / 5;
-    let counted = listing_lines::put_count(text, 0, b"chart ", count as u64);
-    listing_lines::put_complete(text, counted, complete)
+    let counted = count_lines::put_count(text, 0, b"chart ", count as u64);
+    count_lines::put_complete(text, counted, complete)
 }
 
 // The lines of a part's pairs, which the last part has fewer of than the others.
@@ -37,10 +37,10 @@ fn put_lines(list: &[i32], pairs: &[u8], part: usize, text: &mut [u8], end: usiz
     }
     let from = BYTES * part;
     if part == last {
-        return listing_lines::put_pairs(list, &pairs[from..], text, end);
+        return pair_lines::put_pairs(list, &pairs[from..], text, end);
     }
     let to = from + BYTES;
-    listing_lines::put_pairs(list, &pairs[from..to], text, end)
+    pair_lines::put_pairs(list, &pairs[from..to], text, end)
 }
 
 // The line that only the last part ends with.
@@ -50,7 +50,7 @@ fn put_foot(steps: u32, bytes: usize, part: usize, text: &mut [u8], end: usize) 
     if part != bytes / BYTES {
         return end;
     }
-    listing_lines::put_count(text, end, b"steps ", steps as u64)
+    count_lines::put_count(text, end, b"steps ", steps as u64)
 }
 
 // A part of the listing of a list that was read with this number, 0 where it is a chart's, and swept, with the bytes of its
@@ -66,7 +66,7 @@ pub fn put_part(
     ensures { λ r. ⌜ Text·text (now (text .exit)) r ≡ put (partOf number (now (list .entry)) swept (now (pairs .entry)) part) (Text·text (now (text .entry)) 0) ⌝ }
 {
     if number != 0 {
-        return listing_lines::put_count(text, 0, b"refused ", number as u64);
+        return count_lines::put_count(text, 0, b"refused ", number as u64);
     }
     let begun = put_head(list, swept.complete, part, text);
     let listed = put_lines(list, pairs, part, text, begun);

@@ -2,10 +2,10 @@
 use borrow.Author.Needs.{needs}
 use mathlib.Core.List.{_++_}
 use Rattle.decimals.proofs.Puts.{put-then, put-as}
 use Rattle.listing_lines.specs.Lines.{numberText, pointText}
 use Rattle.listing_lines.proofs.Found.{low-found, high-found}
-use Rattle.listing_lines.proofs.put_point.Statement.{statement}
-use Rattle.listing_lines.proofs.put_point.Tie as tie
+use Rattle.place_text.proofs.put_point.Statement.{statement}
+use Rattle.place_text.proofs.put_point.Tie as tie
 
 returns : tie.Need-returns
 unfolding pointText

@@ -7,9 +7,9 @@ use mir.Facts.{toZ-ofZ}
 use Rattle.decimals.specs.Text.{ascii}
 use Rattle.decimals.specs.Decimal.{signedDecimal}
 use Rattle.decimals.proofs.Puts.{put-then, put-as}
 use Rattle.listing_lines.specs.Lines.{numberText}
-use Rattle.listing_lines.proofs.put_number.Statement.{statement}
-use Rattle.listing_lines.proofs.put_number.Tie as tie
+use Rattle.place_text.proofs.put_number.Statement.{statement}
+use Rattle.place_text.proofs.put_number.Tie as tie
 
 returns : tie.Need-returns
 unfolding numberText ascii

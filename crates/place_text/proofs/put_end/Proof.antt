@@ -4,10 +4,10 @@ use mathlib.Core.Path.{ap₂}
 use mathlib.Core.List.{_++_}
 use lib.IntN.{ℤ}
 use Rattle.decimals.proofs.Puts.{put-then, put-as}
 use Rattle.listing_lines.specs.Lines.{numberText, endText}
 use Rattle.listing_lines.proofs.Found.{low-found}
-use Rattle.listing_lines.proofs.put_end.Statement.{statement}
-use Rattle.listing_lines.proofs.put_end.Tie as tie
+use Rattle.place_text.proofs.put_end.Statement.{statement}
+use Rattle.place_text.proofs.put_end.Tie as tie
 
 returns : tie.Need-returns
 unfolding endText

@@ -3,9 +3,9 @@ use borrow.Author.Needs.{needs}
 use mathlib.Core.Path.{sym, ap}
 use Rattle.decimals.specs.Text.{ascii}
 use Rattle.decimals.proofs.Puts.{put-as}
 use Rattle.listing_lines.specs.Lines.{completeLine}
-use Rattle.listing_lines.proofs.put_complete.Statement.{statement}
-use Rattle.listing_lines.proofs.put_complete.Tie as tie
+use Rattle.count_lines.proofs.put_complete.Statement.{statement}
+use Rattle.count_lines.proofs.put_complete.Tie as tie
 
 returns : tie.Need-returns
 unfolding completeLine ascii
