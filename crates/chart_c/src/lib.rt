@@ -116,7 +116,7 @@ pub extern "C" fn mirtalughe_meeting(list: &[i32]) -> Met
 pub extern "C" fn mirtalughe_place(list: &[i32]) -> Placed
     ensures { λ r. ⌜ r ≡ placedOf (placeAnswerOf (now (list .entry))) ⌝ }
 {
-    let answer = place::pair_place(list);
+    let answer = nearest_place::pair_place(list);
     let meeting = answer.meeting;
     c_records::values(answer.number, answer.place, meeting)
 }

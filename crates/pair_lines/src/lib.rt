@@ -11,7 +11,7 @@ fn put_pair(list: &[i32], text: &mut [u8], end: usize, a: u8, b: u8) -> usize
 {
     let i = a as usize;
     let j = b as usize;
-    let found = place::exact(charts::piece_at(list, i), charts::piece_at(list, j));
+    let found = exact_place::exact(charts::piece_at(list, i), charts::piece_at(list, j));
     let named = decimals::put_word(text, end, b"pair ");
     let first = decimals::put_natural(text, named, a as u64);
     let spaced = decimals::put_byte(text, first, b' ');

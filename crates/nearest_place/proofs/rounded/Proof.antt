@@ -4,10 +4,10 @@ use mathlib.Core.Path.{ap, _∙_}
 use lib.IntN.{ℤ}
 use Rattle.integers.proofs.Machine.{m-eq}
 use Rattle.integers.proofs.Tests.{ranged}
 use Rattle.place.specs.Binary64.{nearest}
 use Rattle.place.specs.Place.{nearestPoint}
-use Rattle.place.proofs.rounded.Statement.{statement}
-use Rattle.place.proofs.rounded.Tie as tie
+use Rattle.nearest_place.proofs.rounded.Statement.{statement}
+use Rattle.nearest_place.proofs.rounded.Tie as tie
 
 quotient-requires : tie.Need-quotient-requires
 quotient-requires c κs = search needs

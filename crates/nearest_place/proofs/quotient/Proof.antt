@@ -1,9 +1,9 @@
 -- Both conversions lose nothing, so the one division is the fraction rounded once.
 use lib.IntN.{pos}
 use mir.Facts.{toZ-ofZ}
 use Rattle.place.proofs.Division.{held, one-division}
-use Rattle.place.proofs.quotient.Statement.{statement}
-use Rattle.place.proofs.quotient.Tie as tie
+use Rattle.nearest_place.proofs.quotient.Statement.{statement}
+use Rattle.nearest_place.proofs.quotient.Tie as tie
 
 int-to-float-over : tie.Need-int-to-float-over
 int-to-float-over c = rw (toZ-ofZ (c .before .fits .x)) (held (c .before .args .x) (c .before .pre .0))

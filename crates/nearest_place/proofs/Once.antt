@@ -2,12 +2,8 @@
 -- Assumes nothing.
 use mathlib.Core.Path.{sym, _∙_}
 use Rattle.integers.specs.Outcome.{OneResult}
-use Rattle.place.proofs.exact.Reads as exact
-use Rattle.place.proofs.place_of.Reads as place-of
-use Rattle.place.proofs.pair_place.Reads as pair-place
-
-pub exact-once : OneResult exact.Post
-exact-once κs a x y s t h k = h ∙ sym k
+use Rattle.nearest_place.proofs.place_of.Reads as place-of
+use Rattle.nearest_place.proofs.pair_place.Reads as pair-place
 
 pub place-of-once : OneResult place-of.Post
 place-of-once κs a x y s t h k = h ∙ sym k

@@ -6,9 +6,9 @@ use Rattle.integers.proofs.Tests.{ranged}
 use Rattle.fractions.specs.declared.Order.{Order}
 use Rattle.fractions.specs.Point.{wholeOf}
 use Rattle.line_segment.specs.Piece.{pointOf, endOrder}
 use Rattle.place.specs.Place.{alongBy, alongOf}
-use Rattle.place.proofs.along.Statement.{statement}
-use Rattle.place.proofs.along.Tie as tie
+use Rattle.exact_place.proofs.along.Statement.{statement}
+use Rattle.exact_place.proofs.along.Tie as tie
 
 by-order : (c : tie.After-compare-points) (o : Order) → c .compare-points .result ≡ o
     → alongBy o (c .before .before .before .before .whole .result) (c .before .whole2 .result) ≡ alongOf (c .before .before .before .before .before .before .before .before .before .args .s)

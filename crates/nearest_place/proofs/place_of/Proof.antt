@@ -1,16 +1,16 @@
 -- Each arm knows where the pieces meet, and binary64 holds the numbers of every such point, by the pieces' types.
 use borrow.Author.Needs.{needs}
 use mathlib.Core.Path.{ap, ap₂, _∙_}
 use Rattle.place.specs.declared.Place.the-variants.{At, Along}
 use Rattle.place.specs.Place.{placeOf, inBinary64}
 use Rattle.place.proofs.Held.{held-known}
 use Rattle.place.proofs.Typed.{typed-piece}
-use Rattle.place.proofs.place_of.Statement.{statement}
-use Rattle.place.proofs.place_of.Tie as tie
-use Rattle.place.proofs.place_of.Reads as reads
-use Rattle.place.proofs.place_of.Lts as lts
-use Rattle.place.proofs.exact.Reads as exact-reads
-use Rattle.place.proofs.rounded.Reads as rounded-reads
+use Rattle.nearest_place.proofs.place_of.Statement.{statement}
+use Rattle.nearest_place.proofs.place_of.Tie as tie
+use Rattle.nearest_place.proofs.place_of.Reads as reads
+use Rattle.nearest_place.proofs.place_of.Lts as lts
+use Rattle.exact_place.proofs.exact.Reads as exact-reads
+use Rattle.nearest_place.proofs.rounded.Reads as rounded-reads
 
 exact-requires : tie.Need-exact-requires
 exact-requires c κs = search needs

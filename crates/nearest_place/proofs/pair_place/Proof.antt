@@ -1,9 +1,9 @@
 -- Each arm knows the verdict; the pieces are those of the list.
 use borrow.Author.Needs.{needs}
 use mathlib.Core.Path.{sym, _∙_}
 use Rattle.place.specs.Pair.{placeAnswerOf}
-use Rattle.place.proofs.pair_place.Statement.{statement}
-use Rattle.place.proofs.pair_place.Tie as tie
+use Rattle.nearest_place.proofs.pair_place.Statement.{statement}
+use Rattle.nearest_place.proofs.pair_place.Tie as tie
 
 pair-verdict-of-requires : tie.Need-pair-verdict-of-requires
 pair-verdict-of-requires c κs = search needs

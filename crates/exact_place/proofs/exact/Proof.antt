@@ -1,10 +1,10 @@
 -- Each arm knows what the test answered.
 use borrow.Author.Needs.{needs}
 use mathlib.Core.Path.{ap, _∙_}
 use Rattle.place.specs.declared.Where.the-variants.{At}
 use Rattle.place.specs.Place.{whereOf, whereBy}
-use Rattle.place.proofs.exact.Statement.{statement}
-use Rattle.place.proofs.exact.Tie as tie
+use Rattle.exact_place.proofs.exact.Statement.{statement}
+use Rattle.exact_place.proofs.exact.Tie as tie
 
 intersect-requires : tie.Need-intersect-requires
 intersect-requires c κs = search needs
