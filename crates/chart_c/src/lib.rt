@@ -90,7 +90,7 @@ pub extern "C" fn mirtalughe_read(file: &[u8], list: &mut [i32]) -> Answer
 pub extern "C" fn mirtalughe_write(list: &[i32], file: &mut [u8]) -> Answer
     ensures { λ r. ⌜ Writes (now (list .entry)) (now (file .entry)) r (now (file .exit)) ⌝ }
 {
-    chart_writer::write(list, file)
+    file_writer::write(list, file)
 }
 
 // Draws m times x folded at 0 and h, from x = 0 to s, into a lent list.

@@ -8,10 +8,10 @@ use lib.ListN.{length, length-append}
 use lib.Seq.{sets, length-sets}
 use Rattle.charts.specs.declared.Verdict.the-variants.{Accepted}
 use Rattle.chart_file.specs.Format.{bytesFrom, countOf}
 use Rattle.chart_writer.specs.Writing.{writingOf}
 use Rattle.chart_writer.proofs.Outcomes.{accepted-fives, Goes, goes, writes-refused, writes-done}
-use Rattle.chart_writer.proofs.write.Statement.{statement}
-use Rattle.chart_writer.proofs.write.Tie as tie
+use Rattle.file_writer.proofs.write.Statement.{statement}
+use Rattle.file_writer.proofs.write.Tie as tie
 
 -- two runs of stores leave the length as it was
 same-long : (lent between after : List ℕ) (i : ℕ) (xs : List ℕ) (j : ℕ) (ys : List ℕ) → between ≡ sets lent i xs → after ≡ sets between j ys → length after ≡ length lent

@@ -10,8 +10,8 @@ use mir.Syntax.{w32}
 use mir.Val.{SFits, ofZ, toZ}
 use mir.Facts.{toZ-ofZ}
 use Rattle.chart_file.specs.Coordinate.{stored}
-use Rattle.chart_writer.proofs.stored.Statement.{statement}
-use Rattle.chart_writer.proofs.stored.Tie as tie
+use Rattle.file_groups.proofs.stored.Statement.{statement}
+use Rattle.file_groups.proofs.stored.Tie as tie
 
 -- a number as it comes back from its bits
 abbrev kept : ℤ → ℤ

@@ -7,10 +7,10 @@ use lib.ListN.{length, set, length-set}
 use lib.Seq.{sets}
 use Rattle.chart_file.specs.Groups.{spelled}
 use Rattle.chart_file.specs.Format.{groups}
 use Rattle.chart_writer.proofs.Puts.{Left, all-left, one-more, last-one}
 use Rattle.chart_writer.proofs.Zeros.{counts-groups}
-use Rattle.chart_writer.proofs.put_groups.Statement.{statement}
-use Rattle.chart_writer.proofs.put_groups.Tie as tie
+use Rattle.file_groups.proofs.put_groups.Statement.{statement}
+use Rattle.file_groups.proofs.put_groups.Tie as tie
 
 abbrev Inv-loop : tie.InvT-loop
 Inv-loop v out₀ at last rest₀ i₀ out rest i = (i ≤ last) × (last + 1 ≡ at + length (spelled groups v)) × Left groups v at out₀ i rest out

@@ -9,9 +9,9 @@ use mir.Syntax.{w32}
 use mir.Val.{ofZ, toZ}
 use mir.Facts.{toZ-ofZ}
 use Rattle.chart_file.specs.Coordinate.{stored}
 use Rattle.chart_writer.proofs.Numbers.{kind-small, coordinate-small, Rest, Onward, all-rest, kind-room, kind-rest, coordinate-room, coordinate-rest, no-rest}
-use Rattle.chart_writer.proofs.put_pieces.Statement.{statement}
-use Rattle.chart_writer.proofs.put_pieces.Tie as tie
+use Rattle.file_writer.proofs.put_pieces.Statement.{statement}
+use Rattle.file_writer.proofs.put_pieces.Tie as tie
 
 abbrev Inv-loop2 : tie.InvT-loop2
 Inv-loop2 list n out₀ at next₀ p c₀ out next c = (1 ≤ c) × (c ≤ 5) × Onward list (5 * p + 1) next₀ out₀ (5 * p + c) next out

@@ -5,9 +5,9 @@ use Prim.Native.Nat.{ℕ, _+_, _-_, _/_, _^_, _≤_, _<_}
 use native.Mathlib.Omega.{arith}
 use borrow.Author.Tests.{ne-eqb}
 use lib.Count.{leadingZeros, leading-of-zero, leading-top}
 use Rattle.chart_writer.specs.Zeros.{groupsOf, groupsBy}
-use Rattle.chart_writer.proofs.more_groups.Statement.{statement}
-use Rattle.chart_writer.proofs.more_groups.Tie as tie
+use Rattle.file_groups.proofs.more_groups.Statement.{statement}
+use Rattle.file_groups.proofs.more_groups.Tie as tie
 
 -- a number that is not 0 has a digit
 some-digit : (v : ℕ) → v < 2 ^ 32 → (v ≡ 0 → ⊥) → leadingZeros 32 v ≤ 31

@@ -5,9 +5,9 @@ use Rattle.charts.specs.Chart.{verdictOf}
 use Rattle.charts.specs.declared.Verdict.the-variants.{Accepted}
 use Rattle.charts.proofs.Lent.{room-refused, room-eight, room-accepted}
 use Rattle.chart_file.specs.Format.{longest}
 use Rattle.chart_writer.specs.Writing.{writingOf}
-use Rattle.chart_writer.proofs.writing_of.Statement.{statement}
-use Rattle.chart_writer.proofs.writing_of.Tie as tie
+use Rattle.file_writer.proofs.writing_of.Statement.{statement}
+use Rattle.file_writer.proofs.writing_of.Tie as tie
 
 -- the list is accepted, in the arm that says so
 accepted : (c : tie.After-known-told2) → verdictOf (c .before .before .before .before .args .list .now) ≡ Accepted (c .before .n .given .0 .0)
