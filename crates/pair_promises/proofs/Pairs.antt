@@ -48,7 +48,7 @@ use Rattle.place.proofs.Sharing.{at-exactly, along-exactly}
 use Rattle.place.proofs.Held.{held-known}
 use Rattle.place.proofs.Due.{place-is-due}
 use Rattle.place.proofs.Given.{given-in-range}
-use Rattle.place.proofs.pair_place.Reads as pair-place
+use Rattle.nearest_place.proofs.pair_place.Reads as pair-place
 use Rattle.c_records.specs.declared.Met.{Met}
 use Rattle.c_records.specs.declared.Placed.{Placed}
 use Rattle.c_records.specs.Meetings.{metAs, fieldsOf}
