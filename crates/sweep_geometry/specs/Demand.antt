@@ -65,7 +65,11 @@ pub record LeastCommon (a b : LineSegment) (p : Point) : Type 0 where
   pub common : Common (closed a) (closed b) p
   pub least : (q : Point) → Common (closed a) (closed b) q → ¬ (pointOrder p q ≡ Greater)
 
--- "First common point of a pair that meets": what the sweep's definitions take for it is that
+-- "First common point of a pair that meets": there is one, whatever the two pieces
+abbrev pub FirstCommon : Type 0
+FirstCommon = (a b : LineSegment) → Meet a b → (p : Point) × LeastCommon a b p
+
+-- .. and what the sweep's definitions take for it is that
 abbrev pub FirstIsLeast : Type 0
 FirstIsLeast =
     (n : ℕ) (piece : ℕ → LineSegment) → AllProper n piece → (q : Pair) → Pieces (ported n piece) q
