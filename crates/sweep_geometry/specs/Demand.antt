@@ -14,14 +14,14 @@ use Rattle.line_segment.specs.Piece.{HasLength, closed}
 use Rattle.line_segment.specs.Geometry.{Common}
 use Rattle.line_segment.specs.Demand.{Meet, OnChart}
 use Rattle.charts.specs.Chart.{verdictOf}
-use Rattle.charts.specs.Piece.{pieceAt, noUpright}
+use Rattle.charts.specs.Piece.{pieceAt, isUpright, noUpright}
 use Rattle.charts.specs.declared.Verdict.the-variants.{Accepted}
 use Rattle.sweep.specs.Lists.{Pair}
 use Rattle.sweep.specs.Chart.{meets, kind}
 use Rattle.sweep.specs.Run.{answer}
 use Rattle.sweep.specs.Sought.{first}
 use Rattle.sweep.specs.Demand.{Pieces, Promises, AlwaysPromises}
-use Rattle.sweep.specs.Ported.{isUpright, ported}
+use Rattle.sweep.specs.Ported.{ported}
 use Rattle.sweep_geometry.specs.Full.{full}
 
 -- a piece of some length, with coordinates of a chart

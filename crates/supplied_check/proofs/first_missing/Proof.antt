@@ -6,6 +6,7 @@ use Prim.Native.Nat.{_≤_, _<_, _-_, _+_, _*_}
 use native.Mathlib.Numerals.{add-one}
 use native.Mathlib.Omega.{arith}
 use lib.ListN.{length}
+use Rattle.charts.specs.PairList.{cell}
 use Rattle.naive.specs.Pairs.{row, rows}
 use Rattle.naive.specs.Decoded.{meetsIn}
 use Rattle.naive.proofs.Rows.{row-none, row-no, rows-none}
@@ -69,7 +70,7 @@ is-missing-requires c κs = let i = c .before .before in
 said : (c : tie.After-is-missing Inv-loop2 μ-loop2 Inv-loop μ-loop)
     → let i = c .before .before .before in let s = start i .args in
     unmarked (s .marks .now) (meetsIn (s .pieces .all)) (outer i .loop .a) (i .before .loop2 .b) ≡ c .is-missing .result
-unfolding unmarked meetsIn
+unfolding unmarked meetsIn cell
 said c = sym (c .is-missing .ensures)
 
 returns : tie.Need-returns Inv-loop2 μ-loop2 Inv-loop μ-loop

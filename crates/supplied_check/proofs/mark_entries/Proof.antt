@@ -8,7 +8,7 @@ use Prim.Native.Nat.{ℕ, _≤_, _<_, _-_, _+_, _*_}
 use native.Mathlib.Numerals.{add-one}
 use native.Mathlib.Omega.{arith}
 use lib.ListN.{set}
-use Rattle.charts.specs.Chart.{most}
+use Rattle.charts.specs.PairList.{cell}
 use Rattle.naive.specs.Decoded.{meetsIn}
 use Rattle.supplied.specs.Entries.{one, other, top, low, named, faults}
 use Rattle.supplied.specs.Marks.{Marked, markOf}
@@ -164,6 +164,7 @@ same-length-4 : tie.Need-same-length-4 Inv-loop μ-loop
 same-length-4 c = (at (entry (c .before .before .before))) .loop .inv .2 .size ∙ sym (start (entry (c .before .before .before)) .pre .2 .size)
 
 returns-4 : tie.Need-returns-4 Inv-loop μ-loop
+unfolding cell
 returns-4 c = let m = c .before .before .before in let a = entry m in let s = start a .args in let l = at a .loop in
     walked-fault (s .bytes .now) (meetsIn (s .pieces .all)) (s .n) _ (l .i) 3 (l .inv .1)
     (repeated (s .bytes .now) (meetsIn (s .pieces .all)) (s .n) (l .i) (few m) (apart-here m) (said m ∙ not-false _ (c .before .before .if3 .left)) (marked (c .before) ∙ c .if4 .taken)) (omega arith)
@@ -184,14 +185,15 @@ loop-less : tie.Need-loop-less Inv-loop μ-loop
 loop-less c = search needs
 
 loop-again : tie.Need-loop-again Inv-loop μ-loop
+unfolding cell
 loop-again c = let m = c .before .before .before in let a = entry m in let s = start a .args in let l = at a .loop in
     let g = greater-is a in
     let d = lesser-is a in (
       omega arith,
       rw add-one (faults-good (s .bytes .now) (meetsIn (s .pieces .all)) (s .n) (l .i) (l .inv .1)
           (good (s .bytes .now) (meetsIn (s .pieces .all)) (s .n) (l .i) (few m) (apart-here m) (said m ∙ not-false _ (c .before .before .if3 .left)) (marked (c .before) ∙ c .if4 .left))),
-      subst (λ (k : ℕ). Marked (set (l .marks) k true) (s .bytes .now) (l .i + 1)) (sym (ap₂ (λ (x y : ℕ). x * most + y) g d))
-          (subst (Marked (set (l .marks) (top (s .bytes .now) (l .i) * most + low (s .bytes .now) (l .i)) true) (s .bytes .now)) (sym (add-one (l .i)))
+      subst (λ (k : ℕ). Marked (set (l .marks) k true) (s .bytes .now) (l .i + 1)) (sym (ap₂ (λ (x y : ℕ). cell (x, y)) g d))
+          (subst (Marked (set (l .marks) (cell (top (s .bytes .now) (l .i), low (s .bytes .now) (l .i))) true) (s .bytes .now)) (sym (add-one (l .i)))
           (marked-more (s .bytes .now) (l .i) (l .marks) (l .inv .2) (omega (arith, smaller (m .before .before .before))) (omega (arith, few m, start a .pre .0)))),
     )
 
