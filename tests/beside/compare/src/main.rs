@@ -10,6 +10,7 @@
 mod answers;
 mod batch;
 mod bench;
+mod bench_calls;
 mod bench_full;
 mod bench_sweep;
 mod case;
