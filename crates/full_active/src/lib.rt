@@ -6,7 +6,10 @@ mod parts;
 mod ranks;
 
 pub use moves::exchange;
+pub use moves::put_in;
 pub use moves::replace;
+pub use moves::take_out;
+pub use parts::finishes;
 pub use parts::search;
 pub use parts::starts;
 pub use parts::widen_down;

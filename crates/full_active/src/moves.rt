@@ -76,6 +76,24 @@ pub fn replace(
     to + (live - hi)
 }
 
+// Piece i, without a lane, between the places in front of lo and those from lo on.
+pub fn put_in(active: &mut [u8], lanes: &mut [u32], live: usize, lo: usize, i: u8)
+    requires { ⌜ Movable (now active) (now lanes) live lo (lo + 1) ⌝ }
+    ensures { λ _. ⌜ Replaced (now (active .entry)) (now (lanes .entry)) live lo lo (i ∷ []) 1 (now (active .exit)) (now (lanes .exit)) (live + 1) ⌝ }
+{
+    shift_up(active, lanes, live, lo, lo + 1);
+    active[lo] = i;
+    lanes[lo] = NONE;
+}
+
+// The piece at place lo, with its lane, out of the list.
+pub fn take_out(active: &mut [u8], lanes: &mut [u32], live: usize, lo: usize)
+    requires { ⌜ Movable (now active) (now lanes) live (lo + 1) lo ⌝ }
+    ensures { λ _. ⌜ Replaced (now (active .entry)) (now (lanes .entry)) live lo (lo + 1) [] 0 (now (active .exit)) (now (lanes .exit)) (live - 1) ⌝ }
+{
+    shift_down(active, lanes, live, lo + 1, lo);
+}
+
 // The pieces at places k and k + 1 exchanged, neither with a lane.
 pub fn exchange(active: &mut [u8], lanes: &mut [u32], live: usize, k: usize)
     requires { ⌜ (k + 1 < live) × (live ≤ length (now active)) × (length (now lanes) ≡ length (now active)) ⌝ }

@@ -64,7 +64,7 @@ pub fn turn(
 }
 
 // The lane in front of the block and that of its last piece anew.
-fn examine_outer(
+pub fn examine_outer(
     table: &[i16],
     active: &[u8],
     lanes: &mut [u32],

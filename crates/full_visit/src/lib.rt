@@ -9,6 +9,7 @@ use fractions::Point;
 use full_active::search;
 use full_active::widen_down;
 use full_active::widen_up;
+use full_end_alone::step_at_end;
 use full_ends::end_x;
 use full_ends::end_y;
 use full_ends::pass;
@@ -84,7 +85,7 @@ fn at_end(
     let spot = spot_at(x, y);
     let lo = search(table, active, live, spot);
     let hi = widen_up(table, active, live, spot, lo);
-    step(
+    step_at_end(
         table,
         lowest_terms::whole(x, y),
         spot,

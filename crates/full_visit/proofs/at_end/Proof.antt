@@ -30,8 +30,8 @@ widen-up-requires c κs =
 whole-requires : tie.Need-whole-requires
 whole-requires c κs = search needs
 
-step-requires : tie.Need-step-requires
-step-requires c κs =
+step-at-end-requires : tie.Need-step-at-end-requires
+step-at-end-requires c κs =
     let st = c .before .before .before .before .before .before .before .before .before .before .before .before .before .before .before in
     let e = ap₂ wholeOf (toZ-ofZ w16 _ (search needs) ∙ c .before .before .before .before .before .before .before .before .before .before .end-x .ensures) (toZ-ofZ w16 _ (search needs) ∙ c .before .before .before .before .before .before .before .before .before .end-y .ensures) in
     let at = end-stands e (c .before .before .before .before .before .before .before .before .spot-at .ensures) (c .before .before .before .whole .ensures ∙ e) in
@@ -51,7 +51,7 @@ returns c n lent m a =
     let e = ap₂ wholeOf (toZ-ofZ w16 _ (search needs) ∙ c .before .before .before .before .before .before .before .before .before .before .before .before .before .before .before .before .before .end-x .ensures) (toZ-ofZ w16 _ (search needs) ∙ c .before .before .before .before .before .before .before .before .before .before .before .before .before .before .before .before .end-y .ensures) in
     let at = end-stands e (c .before .before .before .before .before .before .before .before .before .before .before .before .before .before .before .spot-at .ensures) (c .before .before .before .before .before .before .before .before .before .before .whole .ensures ∙ e) in
     carries-to a at (end-carries a at (c .before .before .before .before .before .before .before .before .before .before .before .before .before .search .ensures) (c .before .before .before .before .before .before .before .before .before .before .before .widen-up .ensures)) _ _ _ _
-    (c .before .before .before .before .before .active .given) (c .before .before .before .lanes .given) (c .before .before .before .before .before .before .step .ensures _ (at .marks))
+    (c .before .before .before .before .before .active .given) (c .before .before .before .lanes .given) (c .before .before .before .before .before .before .step-at-end .ensures _ (at .marks))
 
 pub at-end-spec : {M : Type 1} → statement M
 at-end-spec =
@@ -63,7 +63,7 @@ at-end-spec =
     search-requires
     widen-up-requires
     whole-requires
-    step-requires
+    step-at-end-requires
     same-length
     same-length-2
     same-length-3

@@ -1,0 +1,2 @@
+-- What the contracts of a step at an end cite.
+pub mod Alone
