@@ -50,7 +50,7 @@ fn sweep_pieces(list: &[i32], n: usize, budget: u32, pairs: &mut [u8]) -> Swept
 {
     let mut table = [0i16; 5 * MOST];
     ported_table::fill(list, n, &mut table);
-    let stop = ported_run::run(&table, n, budget, pairs);
+    let stop = ported_loop::run(&table, n, budget, pairs);
     let complete = chart_pieces::no_upright(list, n);
     let last = stop.last;
     Swept {

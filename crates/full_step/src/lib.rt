@@ -15,14 +15,14 @@ ghost use Rattle.full_step.specs.Whole.{outerExamined, Steppable, Steppe
 ghost use Rattle.full_step.specs.Crossed.{Crossable, Crossed};
 use charts::MOST;
 use fractions::Point;
-use full_active::exchange;
-use full_active::gather;
-use full_active::renew;
-use full_active::replace;
-use full_lanes::examine;
+use full_examine::examine;
+use full_gather::gather;
 use full_list::list_all;
 use full_list::list_pair;
 use full_points::Spot;
+use full_renew::renew;
+use full_replace::exchange;
+use full_replace::replace;
 
 // The new pairs of the pieces at the point; where the list ends now.
 pub fn report(

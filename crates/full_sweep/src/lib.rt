@@ -19,7 +19,7 @@ fn sweep_pieces(list: &[i32], n: usize, budget: u32, pairs: &mut [u8]) -> Swept
 {
     let mut table = [0i16; 5 * MOST];
     ported_table::fill(list, n, &mut table);
-    let stop = full_run::run(&table, n, budget, pairs);
+    let stop = full_loop::run(&table, n, budget, pairs);
     let last = stop.last;
     Swept {
         number: 0,

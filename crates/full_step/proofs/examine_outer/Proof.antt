@@ -10,7 +10,7 @@ use Rattle.full_step.proofs.examine_outer.Statement.{statement}
 use Rattle.full_step.proofs.examine_outer.Tie as tie
 use Rattle.full_step.proofs.examine_outer.Reads as reads
 use Rattle.full_step.proofs.examine_outer.Lts as lts
-use Rattle.full_lanes.proofs.examine.Reads as examine-reads
+use Rattle.full_examine.proofs.examine.Reads as examine-reads
 
 -- where the two branches meet
 lower-is : (c : lts.Joined1 (examine-reads.Asked, examine-reads.Learnt) reads.Pre reads.Post)
