@@ -1,2 +1,2 @@
--- What the contracts of a step at an end cite.
+-- What the contracts of an end alone cite.
 pub mod Alone

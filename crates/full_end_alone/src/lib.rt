@@ -1,22 +1,17 @@
-// The step at a point where ends stand. Mostly one stands there alone: its piece comes in where no other goes through, or goes
-// out, and then no pair is listed and nothing is put in order.
+// One end alone at a point, as mostly: its piece comes in where no other goes through, or goes out, and then no pair is listed
+// and nothing is put in order.
 ghost use mathlib.Core.Path.{_≡_};
 ghost use mathlib.Core.List.{[], _∷_};
 ghost use Prim.Native.Nat.{ℕ, _+_, _≤_};
 ghost use lib.ListN.{length};
-ghost use Rattle.fractions.specs.declared.Point.{Point};
 ghost use Rattle.full_points.specs.Spot.{Fair, Marks};
-ghost use Rattle.full_step.specs.Halves.{newBlock};
-ghost use Rattle.full_step.specs.Whole.{Steppable, Stepped};
 ghost use Rattle.full_end_alone.specs.Alone.{Told, Settleable, Settled};
 use fractions::Point;
 use full_block::finishes;
+use full_outer::examine_outer;
 use full_points::Spot;
 use full_replace::put_in;
 use full_replace::take_out;
-use full_step::At;
-use full_step::examine_outer;
-use full_step::step;
 
 // What one end does that stands alone at a point: its piece is the only one there, and enters or leaves.
 pub enum Alone {
@@ -26,7 +21,7 @@ pub enum Alone {
 }
 
 // What the ends at p do, of which the pieces through p stand from lo up to hi.
-fn lone_end(table: &[i16], p: Spot, active: &[u8], lo: usize, hi: usize, ends: &[u64]) -> Alone
+pub fn lone_end(table: &[i16], p: Spot, active: &[u8], lo: usize, hi: usize, ends: &[u64]) -> Alone
     requires { ⌜ Fair p × (lo ≤ hi) × (hi ≤ length (now active)) ⌝ }
     ensures { λ r. ⌜ ((q : Point) → Marks p q → Told (now (table .entry)) q lo hi (now (active .entry)) (now (ends .entry)) r) ⌝ }
 {
@@ -47,7 +42,7 @@ fn lone_end(table: &[i16], p: Spot, active: &[u8], lo: usize, hi: usize, ends: &
 }
 
 // Piece i comes in at place lo; how many pieces are active now.
-fn enter(
+pub fn enter(
     table: &[i16],
     p: Point,
     active: &mut [u8],
@@ -65,7 +60,7 @@ fn enter(
 }
 
 // The piece at place lo goes out.
-fn leave(
+pub fn leave(
     table: &[i16],
     p: Point,
     active: &mut [u8],
@@ -79,48 +74,4 @@ fn leave(
     take_out(active, lanes, live, lo);
     examine_outer(table, active, lanes, live - 1, lo, 0, p);
     live - 1
-}
-
-// The whole step at p, whose spot it is.
-pub fn step_at_end(
-    table: &[i16],
-    p: Point,
-    spot: Spot,
-    active: &mut [u8],
-    lanes: &mut [u32],
-    live: usize,
-    lo: usize,
-    hi: usize,
-    ends: &[u64],
-    bytes: &mut [u8],
-    end: usize,
-) -> At
-    requires { ⌜ Steppable (now table) spot (now active) (now lanes) live lo hi (now ends) (now bytes) end ⌝ }
-    ensures { λ r. ⌜ ((q : Point) → Marks spot q → Stepped (now (table .entry)) q p (now (active .entry)) (now (lanes .entry)) live lo hi (now (ends .entry)) (now (bytes .entry)) end
-        (now (active .exit)) (now (lanes .exit)) (now (bytes .exit)) r (newBlock (now (table .entry)) q lo hi (now (active .entry)) (now (ends .entry)))) ⌝ }
-{
-    match lone_end(table, spot, active, lo, hi, ends) {
-        Alone::Enters => {
-            let i = (ends[0] % 65536 / 2) as u8;
-            let count = enter(table, p, active, lanes, live, lo, i);
-            At { live: count, end }
-        }
-        Alone::Leaves => {
-            let count = leave(table, p, active, lanes, live, lo);
-            At { live: count, end }
-        }
-        Alone::Neither => step(
-            table,
-            p,
-            spot,
-            active,
-            lanes,
-            live,
-            lo,
-            hi,
-            ends,
-            bytes,
-            end,
-        ),
-    }
 }

@@ -1,13 +1,13 @@
--- `full_visit::at_end` meets its contract: the block is found by bisection.
+-- `full_at_point::at_end` meets its contract: the block is found by bisection.
 use mathlib.Core.Path.{ap₂, _∙_}
 use native.Mathlib.Omega.{arith}
 use mir.Syntax.{w16}
 use mir.ValLaws.{toZ-ofZ}
 use Rattle.fractions.specs.Point.{wholeOf}
-use Rattle.full_visit.proofs.Visiting.{end-stands, end-carries, carries-to}
+use Rattle.full_at_point.proofs.AtPoint.{end-stands, end-carries, carries-to}
 use borrow.Author.Needs.{needs}
-use Rattle.full_visit.proofs.at_end.Statement.{statement}
-use Rattle.full_visit.proofs.at_end.Tie as tie
+use Rattle.full_at_point.proofs.at_end.Statement.{statement}
+use Rattle.full_at_point.proofs.at_end.Tie as tie
 
 end-x-requires : tie.Need-end-x-requires
 end-x-requires c κs = search needs

@@ -1,4 +1,4 @@
--- `full_visit::at_crossing` meets its contract: the block of two places that cross is found from there, and where they are all
+-- `full_at_point::at_crossing` meets its contract: the block of two places that cross is found from there, and where they are all
 -- of it they change places.
 use mathlib.Core.Path.{_≡_, refl, sym, subst}
 use mathlib.Core.List.{List, []}
@@ -6,11 +6,11 @@ use Prim.Native.Nat.{ℕ}
 use native.Mathlib.Omega.{arith}
 use Rattle.full_points.specs.Spot.{ChartPoint}
 use Rattle.full_step.specs.Carried.{StandsAt}
-use Rattle.full_visit.specs.Visit.{Awaits, crossingAt}
-use Rattle.full_visit.proofs.Visiting.{crossing-stands, crossing-carries, carries-to, two-cross, two-carry}
+use Rattle.full_at_point.specs.AtPoint.{Awaits, crossingAt}
+use Rattle.full_at_point.proofs.AtPoint.{crossing-stands, crossing-carries, carries-to, two-cross, two-carry}
 use borrow.Author.Needs.{needs}
-use Rattle.full_visit.proofs.at_crossing.Statement.{statement}
-use Rattle.full_visit.proofs.at_crossing.Tie as tie
+use Rattle.full_at_point.proofs.at_crossing.Statement.{statement}
+use Rattle.full_at_point.proofs.at_crossing.Tie as tie
 
 abbrev begun : tie.After-widen-up → tie.Start
 begun w = w .before .before .before .before .before .before .before .before .before

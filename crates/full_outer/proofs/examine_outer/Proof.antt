@@ -1,15 +1,15 @@
--- `full_step::examine_outer` meets its contract: a lane is examined where the branch is taken.
+-- `full_outer::examine_outer` meets its contract: a lane is examined where the branch is taken.
 use borrow.Author.Needs.{needs}
 use mathlib.Core.Path.{_≡_, sym, ap, _∙_}
 use mathlib.Core.Logic.{⊎-elim}
 use native.Mathlib.Omega.{arith}
 use lib.ListN.{length}
 use Rattle.full_step.specs.Whole.{lowerExamined, upperExamined}
 use Rattle.full_step.proofs.Outer.{lower-yes, lower-no, lower-length, upper-yes, upper-no}
-use Rattle.full_step.proofs.examine_outer.Statement.{statement}
-use Rattle.full_step.proofs.examine_outer.Tie as tie
-use Rattle.full_step.proofs.examine_outer.Reads as reads
-use Rattle.full_step.proofs.examine_outer.Lts as lts
+use Rattle.full_outer.proofs.examine_outer.Statement.{statement}
+use Rattle.full_outer.proofs.examine_outer.Tie as tie
+use Rattle.full_outer.proofs.examine_outer.Reads as reads
+use Rattle.full_outer.proofs.examine_outer.Lts as lts
 use Rattle.full_examine.proofs.examine.Reads as examine-reads
 
 -- where the two branches meet

@@ -1,18 +1,18 @@
--- `full_step::step` meets its contract: both halves, then the outer lanes of the block that is there now.
+-- `full_whole::step` meets its contract: both halves, then the outer lanes of the block that is there now.
 use borrow.Author.Needs.{needs}
 use mathlib.Core.Path.{_≡_}
 use Prim.Native.Nat.{_+_, _-_, _≤_}
 use native.Mathlib.Omega.{arith}
 use lib.ListN.{length}
 use Rattle.full_step.specs.Halves.{newBlock}
 use Rattle.full_step.proofs.Turning.{turned-fits, turned-proper, stepped}
-use Rattle.full_step.proofs.step.Statement.{statement}
-use Rattle.full_step.proofs.step.Tie as tie
-use Rattle.full_step.proofs.step.Reads as reads
-use Rattle.full_step.proofs.step.Lts as lts
-use Rattle.full_step.proofs.examine_outer.Reads as examine-outer-reads
-use Rattle.full_step.proofs.report.Reads as report-reads
-use Rattle.full_step.proofs.turn.Reads as turn-reads
+use Rattle.full_whole.proofs.step.Statement.{statement}
+use Rattle.full_whole.proofs.step.Tie as tie
+use Rattle.full_whole.proofs.step.Reads as reads
+use Rattle.full_whole.proofs.step.Lts as lts
+use Rattle.full_outer.proofs.examine_outer.Reads as examine-outer-reads
+use Rattle.full_halves.proofs.report.Reads as report-reads
+use Rattle.full_halves.proofs.turn.Reads as turn-reads
 
 abbrev Halved : Type 0
 Halved =

@@ -1,4 +1,4 @@
--- `full_step::turn` meets its contract: the new pieces are the block anew, and there is room for them.
+-- `full_halves::turn` meets its contract: the new pieces are the block anew, and there is room for them.
 use borrow.Author.Needs.{needs}
 use mathlib.Core.Path.{_≡_, ap, _∙_}
 use mathlib.Core.List.{List, _++_}
@@ -7,9 +7,9 @@ use native.Mathlib.Omega.{arith}
 use lib.ListN.{length, take}
 use lib.Seq.{slice, length-slice}
 use Rattle.full_active.specs.Ranks.{goesOnIn, starters}
 use Rattle.full_step.proofs.Counts.{no-more}
-use Rattle.full_step.proofs.turn.Statement.{statement}
-use Rattle.full_step.proofs.turn.Tie as tie
+use Rattle.full_halves.proofs.turn.Statement.{statement}
+use Rattle.full_halves.proofs.turn.Tie as tie
 
 slice-aggregate-renew : tie.Need-slice-aggregate-renew
 slice-aggregate-renew c = search needs

@@ -1,15 +1,15 @@
--- `full_end_alone::step_at_end` meets its contract: what is told of the ends makes a piece that comes in or goes out the step.
+-- `full_whole::step_at_end` meets its contract: what is told of the ends makes a piece that comes in or goes out the step.
 use borrow.Author.Needs.{needs}
 use mathlib.Core.Path.{_≡_, subst}
 use native.Mathlib.Omega.{arith}
 use Rattle.fractions.specs.declared.Point.{Point}
 use Rattle.full_points.specs.Spot.{Marks}
 use Rattle.full_end_alone.specs.declared.Alone.{Alone}
 use Rattle.full_end_alone.specs.declared.Alone.the-variants.{Enters, Leaves}
 use Rattle.full_end_alone.specs.Alone.{Coming, Going, Told}
 use Rattle.full_end_alone.proofs.Stepping.{coming-fits, coming-settles, going-settles, coming-steps, going-steps}
-use Rattle.full_end_alone.proofs.step_at_end.Statement.{statement}
-use Rattle.full_end_alone.proofs.step_at_end.Tie as tie
+use Rattle.full_whole.proofs.step_at_end.Statement.{statement}
+use Rattle.full_whole.proofs.step_at_end.Tie as tie
 
 abbrev begun : tie.After-lone-end → tie.Start
 begun w = w .before .before .before .before .before .before

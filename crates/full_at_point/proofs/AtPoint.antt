@@ -29,7 +29,7 @@ use Rattle.full_step.proofs.Carrying.{step-carries}
 use Rattle.full_step.proofs.Crossing.{Turns, crossable, crossed-steps}
 use Rattle.full_ahead.specs.Coming.{Known}
 use Rattle.full_ahead.proofs.Block.{first, last, searched, widened-up, widened-down, crossing-block}
-use Rattle.full_visit.specs.Visit.{Awaits, CrossAt, crossingAt}
+use Rattle.full_at_point.specs.AtPoint.{Awaits, CrossAt, crossingAt}
 
 -- ---- the point that the code holds
 pub crossing-stands : (table : List ℤ) (active : List ℕ) (k : ℕ) {q : Point} → q ≡ meetingAt table active k → {spot : Spot} → Fair spot × Marks spot q

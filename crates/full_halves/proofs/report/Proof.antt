@@ -1,12 +1,12 @@
--- `full_step::report` meets its contract: what is gathered are the pieces at the point.
+-- `full_halves::report` meets its contract: what is gathered are the pieces at the point.
 use borrow.Author.Needs.{needs}
 use mathlib.Core.Path.{_≡_}
 use native.Mathlib.Omega.{arith}
 use lib.ListN.{length, length-append}
 use lib.Seq.{slice, length-slice}
 use Rattle.full_active.specs.Ranks.{starters}
-use Rattle.full_step.proofs.report.Statement.{statement}
-use Rattle.full_step.proofs.report.Tie as tie
+use Rattle.full_halves.proofs.report.Statement.{statement}
+use Rattle.full_halves.proofs.report.Tie as tie
 
 slice-aggregate-gather : tie.Need-slice-aggregate-gather
 slice-aggregate-gather c = search needs

@@ -1,15 +1,15 @@
--- `full_step::cross` meets its contract: the pair listed, the two exchanged, then the lanes beside them.
+-- `full_outer::cross` meets its contract: the pair listed, the two exchanged, then the lanes beside them.
 use borrow.Author.Needs.{needs}
 use mathlib.Core.Path.{_≡_, refl, ap, _∙_}
 use native.Mathlib.Omega.{arith}
 use lib.ListN.{length, take}
 use Rattle.full_lanes.specs.Lanes.{pairAt}
 use Rattle.full_step.specs.Whole.{outerExamined}
 use Rattle.full_step.specs.Crossed.{turnedTwo}
 use Rattle.full_step.proofs.Outer.{outer-take}
 use Rattle.full_step.proofs.Turning.{proper-places}
-use Rattle.full_step.proofs.cross.Statement.{statement}
-use Rattle.full_step.proofs.cross.Tie as tie
+use Rattle.full_outer.proofs.cross.Statement.{statement}
+use Rattle.full_outer.proofs.cross.Tie as tie
 
 slice-read-list-pair : tie.Need-slice-read-list-pair
 slice-read-list-pair c = search needs
