@@ -1,6 +1,7 @@
 -- `count_at`: each return stands at the count that the groups and the limit lead to.
 use borrow.Author.Needs.{needs}
 use mathlib.Core.Path.{sym, _∙_}
+use native.Mathlib.Omega.{arith}
 use Rattle.chart_file.proofs.Numbers.{count-refused, count-many, count-few}
 use Rattle.file_numbers.proofs.count_at.Statement.{statement}
 use Rattle.file_numbers.proofs.count_at.Tie as tie
@@ -10,7 +11,7 @@ returns c =
     let g = c .before .before .before .before in
     let s = g .before .before .args .file .now in
     let n = c .before .before .n .given in
-    sym (count-many s (n .0 .0) (n .0 .1 .0) (sym (g .groups-at .ensures) ∙ n .1) (c .if1 .taken))
+    sym (count-many s (n .0 .0) (n .0 .1 .0) (sym (g .groups-at .ensures) ∙ n .1) (omega (arith, c .if1 .taken)))
 
 returns-2 : tie.Need-returns-2
 returns-2 c =
@@ -24,7 +25,7 @@ returns-3 c =
     let g = c .before .before .before .before in
     let s = g .before .before .args .file .now in
     let n = c .before .before .n .given in
-    sym (count-few s (n .0 .0) (n .0 .1 .0) (sym (g .groups-at .ensures) ∙ n .1) (c .if1 .left))
+    sym (count-few s (n .0 .0) (n .0 .1 .0) (sym (g .groups-at .ensures) ∙ n .1) (omega (arith, c .if1 .left)))
 
 pub count-at-spec : {M : Type 1} → statement M
 count-at-spec = tie.close (tie.spec (λ c κs. search needs) (λ c. search needs) (λ c. search needs) (λ c. search needs) returns returns-2 returns-3)
