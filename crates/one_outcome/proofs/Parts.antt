@@ -15,6 +15,7 @@ use Rattle.line_pieces.proofs.put_pieces.Reads as put-pieces
 use Rattle.ported_run.proofs.last_at.Reads as ported-last-at
 use Rattle.ported_run.proofs.tally.Reads as tally
 use Rattle.ported_run.proofs.is_empty.Reads as is-empty
+use Rattle.sorted_keys.proofs.sort.Reads as sort
 use Rattle.full_ends.proofs.end_x.Reads as end-x
 use Rattle.full_ends.proofs.end_y.Reads as end-y
 use Rattle.full_ends.proofs.order_ends.Reads as order-ends
@@ -63,6 +64,9 @@ pub is-empty-once : OneResult is-empty.Post
 is-empty-once κ a x y s t h k = h 0 ∙ sym (k 0)
 
 -- ---- the new mode
+pub sort-once : OneOutcome sort.Post (λ κ s. now (s .0))
+sort-once κ a x y s t h k = (refl, h ∙ sym k)
+
 pub end-x-once : OneResult end-x.Post
 end-x-once κ a x y s t h k = h ∙ sym k
 
