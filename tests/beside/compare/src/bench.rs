@@ -10,7 +10,9 @@ use crate::answers::{Chart, LIMIT, MOST_PIECES, Point, is_upright};
 use crate::charts::{self, Random};
 use crate::original::{self, Original};
 use crate::refusals::numbers;
-use crate::{bench_calls, bench_full, bench_sweep, file, files, library, model, writing};
+use crate::{
+  bench_calls, bench_full, bench_schedule, bench_sweep, file, files, library, model, writing,
+};
 
 const SEED: u64 = 6;
 /// A time is that of the quickest of so many batches of calls.
@@ -55,6 +57,8 @@ pub fn print(programs: &Path) -> Result<()> {
   bench_full::print(programs)?;
   println!();
   bench_calls::print();
+  println!();
+  bench_schedule::print();
   Ok(())
 }
 

@@ -16,6 +16,7 @@ mod batch;
 mod bench;
 mod bench_calls;
 mod bench_full;
+mod bench_schedule;
 mod bench_sweep;
 mod case;
 mod charts;
