@@ -32,8 +32,8 @@ extern "C" {
 /* ---- version: of what this header says. MAJOR grows where a program that was right may have to change. */
 #define MIRTALUGHE_VERSION_MAJOR 0
 #define MIRTALUGHE_VERSION_MINOR 16
-#define MIRTALUGHE_VERSION_PATCH 2
-#define MIRTALUGHE_VERSION "0.16.2"
+#define MIRTALUGHE_VERSION_PATCH 1
+#define MIRTALUGHE_VERSION "0.16.1"
 
 /* ---- sizes */
 #define MIRTALUGHE_MOST_PIECES 200 /* of a chart */
