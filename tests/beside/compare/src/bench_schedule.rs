@@ -40,7 +40,12 @@ fn row(name: &str, n: i32, dearest: Option<u32>, piece: impl Fn(i32) -> Piece) {
   let mut bytes = vec![0; room(chart.len())];
   let swept = library::sweep(&list, u32::MAX, &mut bytes);
   let mut times = |call: Call| {
-    let mut took = |budget| quickest(|| drop(black_box(call(&list, budget, &mut bytes)))) / 1e3;
+    let mut took = |budget| {
+      let ns = quickest(|| {
+        black_box(call(&list, budget, &mut bytes));
+      });
+      ns / 1e3
+    };
     let step = dearest.map(|step| took(step) - took(step - 1));
     let step = step.map_or("-".to_string(), |us| format!("{us:.1}"));
     format!("{:.1} | {step}", took(u32::MAX))
