@@ -142,8 +142,8 @@ plain_order/specs/Plain:orderingOf RefusesInOrder
     ),
     (
         "3",
-        "promises/specs/Sweep:ListsExactly,ListsInOrder,VisitsInOrder,ListsAllPairs,FullSweepBounded,FirstCommon,Ported "
-        "promises/specs/Chart:NoneUpright",
+        "promises/specs/Sweep:ListsExactly,ListsInOrder,VisitsInOrder,ListsMeetings,FullSweepBounded,Ported "
+        "promises/specs/Chart:NoneUpright sweep_geometry/specs/Demand:FirstCommon",
         LISTS + SWEEP + PAIRS + "charts/specs/Demand:ListingDue ListingRefusesExactly",
     ),
     (

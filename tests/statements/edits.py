@@ -7,16 +7,14 @@ usage: edits.py [charts [seed]]    Exits 1 where an edit fails no chart or is no
 specs as they stand fail one.
 The state is that of the crate's specs: the queue is not stored, but made of the ends beyond the last point and the
 crossings of the waiting pairs."""
-import random
 import sys
 from importlib import import_module
 from itertools import combinations
-from pathlib import Path
 
-tries = import_module("try")
-random_chart, sought = tries.random_chart, tries.sought
+from smallest import smallest, try_edits
 
-EDITS = Path(__file__).resolve().parents[2] / "crates/sweep/must-fail"
+sought = import_module("try").sought
+
 NAMES = (
     "active_left_out counts_twice crossing_pieces_stay examines_once finished_pieces_enter greater_pairs_first "
     "idles_after_one_step lists_in_front lists_what_lies_ahead lists_without_test marks_not_dropped takes_the_greatest "
@@ -97,36 +95,16 @@ def first_failure(chart, edit):
     return None
 
 
-def size(chart):
-    return chart.n, sum(abs(v) for s in chart.pieces for v in s.min + s.max)
-
-
-def smallest(edit, charts, seed):
-    rnd, found = random.Random(seed), None
-    for _ in range(charts):
-        chart = random_chart(rnd)
-        if any(s.upright for s in chart.pieces) or found and size(chart) >= size(found[0]):
-            continue
-        budget = first_failure(chart, edit)
-        if budget is not None:
-            found = chart, budget
-    return found
+def failure(chart, edit):
+    budget = None if any(s.upright for s in chart.pieces) else first_failure(chart, edit)
+    return None if budget is None else f"fails at budget {budget}"
 
 
 def main():
     charts = int(sys.argv[1]) if len(sys.argv) > 1 else 20_000
     seed = int(sys.argv[2]) if len(sys.argv) > 2 else 1
-    known = sorted(p.stem for p in EDITS.glob("*.edit"))
-    wrong = known != sorted(NAMES) or smallest(None, charts, seed) is not None
-    for edit in NAMES:
-        found = smallest(edit, charts, seed)
-        wrong = wrong or found is None
-        told = "no chart fails"
-        if found:
-            pieces = " ".join(f"{s.min}-{s.max}:{s.min_in + 2 * s.max_in}" for s in found[0].pieces)
-            told = f"fails at budget {found[1]} on {pieces}"
-        print(f"{edit}: {told}")
-    sys.exit(1 if wrong else 0)
+    sound = smallest(lambda chart: failure(chart, None), charts, seed) is None
+    sys.exit(1 if try_edits("sweep", NAMES, failure, charts, seed) or not sound else 0)
 
 
 if __name__ == "__main__":

@@ -13,14 +13,13 @@ from collections import Counter
 from fractions import Fraction
 from importlib import import_module
 from itertools import combinations
-from pathlib import Path
 
 from chart import Chart
+from smallest import try_edits
 
 tries = import_module("try")
 random_chart, sought = tries.random_chart, tries.sought
 
-EDITS = Path(__file__).resolve().parents[2] / "crates/full_steps/must-fail"
 NAMES = (
     "active_left_out block_by_falling_slope closing_pair_forgotten complete_by_uprights counts_twice crossings_not_queued "
     "finished_pieces_in_the_block finishing_pieces_stay fresh_overlap_again idles_after_one_step "
@@ -152,33 +151,9 @@ def try_full(chart, edit=None):
     return [], len(points)
 
 
-def size(chart):
-    return chart.n, sum(abs(v) for s in chart.pieces for v in s.min + s.max)
-
-
-def smallest(edit, charts, seed):
-    rnd, found = random.Random(seed), None
-    for _ in range(charts):
-        chart = Fine(random_chart(rnd).pieces)
-        if found and size(chart) >= size(found[0]):
-            continue
-        failed, steps = try_full(chart, edit)
-        if failed:
-            found = chart, failed, steps
-    return found
-
-
-def try_edits(charts, seed):
-    wrong = sorted(p.stem for p in EDITS.glob("*.edit")) != sorted(NAMES)
-    for edit in NAMES:
-        found = smallest(edit, charts, seed)
-        wrong = wrong or found is None
-        told = "no chart fails"
-        if found:
-            pieces = " ".join(f"{s.min}-{s.max}:{s.min_in + 2 * s.max_in}" for s in found[0].pieces)
-            told = f"{', '.join(found[1])} after {found[2]} steps on {pieces}"
-        print(f"{edit}: {told}")
-    return wrong
+def failure(chart, edit):
+    failed, steps = try_full(Fine(chart.pieces), edit)
+    return f"{', '.join(failed)} after {steps} steps" if failed else None
 
 
 def try_statements(charts, seed):
@@ -198,7 +173,8 @@ def main():
     edits = words[:1] == ["edits"]
     numbers = [int(w) for w in words[edits:]]
     charts, seed = (numbers + [20_000, 1][len(numbers):])[:2]
-    sys.exit(1 if (try_edits if edits else try_statements)(charts, seed) else 0)
+    wrong = try_edits("full_steps", NAMES, failure, charts, seed) if edits else try_statements(charts, seed)
+    sys.exit(1 if wrong else 0)
 
 
 if __name__ == "__main__":

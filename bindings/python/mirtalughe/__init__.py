@@ -3,9 +3,9 @@
 A chart is a list of pieces, each five whole numbers: kind, x1, y1, x2, y2. Kind 0 to 3: add 1 if the first end is included, 2
 if the second is. Coordinates run from -LIMIT to LIMIT, and a chart has at most MOST_PIECES pieces.
 
-    >>> from mirtalughe import place, sweep
+    >>> from mirtalughe import full_sweep, place
     >>> pieces = [(3, 0, 0, 4, 4), (3, 0, 4, 4, 0)]
-    >>> sweep(pieces).pairs
+    >>> full_sweep(pieces).pairs
     [(0, 1)]
     >>> place(*pieces)
     At(x=2.0, y=2.0)

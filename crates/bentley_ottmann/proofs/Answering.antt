@@ -14,7 +14,7 @@ use Rattle.charts.specs.Demand.{Due, done}
 use Rattle.charts.specs.declared.Verdict.the-variants.{Accepted, Refused}
 use Rattle.charts.proofs.Exactly.{refuses-exactly}
 use Rattle.charts.proofs.Accepted.{accepted-most, pieces-have-length}
-use Rattle.charts.specs.Piece.{pieceAt, noUpright}
+use Rattle.charts.specs.Piece.{pieceAt, isUpright, noUpright}
 use Rattle.naive.specs.Pairs.{over}
 use Rattle.sweep.specs.Lists.{upto, any}
 use Rattle.sweep.specs.Chart.{Chart}
@@ -23,13 +23,11 @@ use Rattle.sweep.specs.State.{start as begin}
 use Rattle.sweep.specs.Queue.{next as next-of}
 use Rattle.sweep.specs.Run.{is-none, run, answer-of, answer}
 use Rattle.sweep.specs.Run.{onwards as going}
-use Rattle.sweep.specs.Ported.{isUpright}
 use Rattle.ported_arrays.specs.Event.{Sheet}
 use Rattle.ported_arrays.specs.Run.{next, onwards, start}
 use Rattle.ported_arrays.specs.Agreement.{Agrees}
 use Rattle.ported_arrays.proofs.Flat.{flat-length}
 use Rattle.ported_arrays.proofs.Nexts.{next-agrees}
-use Rattle.sweep_geometry.proofs.Accepted.{upright-same}
 use Rattle.ported_pieces.specs.Table.{pieceIn, chartIn}
 use Rattle.ported_table.specs.Filled.{filled}
 use Rattle.ported_pieces.proofs.Ordering.{ordered}
@@ -60,7 +58,7 @@ pub none-upright : (list : List ℤ) (n : ℕ) → noUpright list n ≡ not (any
 unfolding noUpright any upto
 none-upright list zero = refl
 none-upright list (suc n) =
-    rw (any-append (λ i. isUpright (pieceAt list i)) (upto n) (n ∷ []), none-upright list n, ← upright-same (pieceAt list n))
+    rw (any-append (λ i. isUpright (pieceAt list i)) (upto n) (n ∷ []), none-upright list n)
     (neither (any (λ i. isUpright (pieceAt list i)) (upto n)) (isUpright (pieceAt list n)))
 
 -- ---- a run that stopped

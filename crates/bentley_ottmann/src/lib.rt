@@ -50,8 +50,8 @@ fn sweep_pieces(list: &[i32], n: usize, budget: u32, pairs: &mut [u8]) -> Swept
 {
     let mut table = [0i16; 5 * MOST];
     ported_table::fill(list, n, &mut table);
-    let stop = ported_run::run(&table, n, budget, pairs);
-    let complete = charts::no_upright(list, n);
+    let stop = ported_loop::run(&table, n, budget, pairs);
+    let complete = chart_pieces::no_upright(list, n);
     let last = stop.last;
     Swept {
         number: 0,
@@ -70,7 +70,7 @@ fn sweep_pieces(list: &[i32], n: usize, budget: u32, pairs: &mut [u8]) -> Swept
 pub fn sweep(list: &[i32], budget: u32, pairs: &mut [u8]) -> Swept
     ensures { λ r. ⌜ (r ≡ sweepOf (now (list .entry)) budget (length (now (pairs .entry)))) × (now (pairs .exit) ≡ lentAfter (now (list .entry)) budget (now (pairs .entry))) ⌝ }
 {
-    match charts::listing_of(list, pairs.len()) {
+    match chart_verdict::listing_of(list, pairs.len()) {
         Verdict::Refused(number, place) => refused(number, place),
         Verdict::Accepted(n) => sweep_pieces(list, n, budget, pairs),
     }

@@ -40,6 +40,7 @@ module _ {A B : Outcome} {Whole : List ℤ → ℕ → Type 0} (within : (list :
         lists-exactly = λ list n budget lent r after c o. P .lists-exactly list n budget lent r after c (within _ _ _ _ _ o);
         lists-in-order = λ list n budget lent r after c o. P .lists-in-order list n budget lent r after c (within _ _ _ _ _ o);
         visits-in-order = λ list n budget lent r after c o. P .visits-in-order list n budget lent r after c (within _ _ _ _ _ o);
+        lists-meetings = λ list n budget lent r after c o. P .lists-meetings list n budget lent r after c (within _ _ _ _ _ o);
         lists-all-pairs = λ list n budget lent r after c o. P .lists-all-pairs list n budget lent r after c (within _ _ _ _ _ o);
         full-sweep-bounded = λ list n budget lent r after c o. P .full-sweep-bounded list n budget lent r after c (within _ _ _ _ _ o);
         says-complete = λ list n budget lent r after c o. P .says-complete list n budget lent r after c (within _ _ _ _ _ o);

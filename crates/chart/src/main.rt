@@ -1,9 +1,9 @@
-// The chart program: a chart file on standard input, its listing on standard output. What it prints is listing_parts'; nothing
+// The chart program: a chart file on standard input, its listing on standard output. What it prints is print_parts'; nothing
 // of the input past what decides it is read.
 use libc::STDIN_FILENO;
 
 fn main() {
     let mut file = [0u8; listing::DECIDING];
     let size = io::read_full(STDIN_FILENO, &mut file);
-    listing_parts::print(&file[..size]);
+    print_parts::print(&file[..size]);
 }

@@ -12,7 +12,7 @@
                 reads or writes it during the call. What is const nobody writes during the call; it may be one list in
                 several calls at once.
    Threads.     A call keeps nothing after it returns and has no state, so that any number may run at once.
-   Memory.      Nothing is allocated. A call takes at most 83 KiB of stack, mirtalughe_full_sweep at most 8, as measured
+   Memory.      Nothing is allocated. A call takes at most 83 KiB of stack, mirtalughe_full_sweep at most 11, as measured
                 (tests/stack.c).
    Refusals.    Whatever it is given, a call returns. A refusal has `number` other than MIRTALUGHE_DONE and a `place`;
                 every other field is zero or false, and lent memory keeps its content.
@@ -32,8 +32,8 @@ extern "C" {
 /* ---- version: of what this header says. MAJOR grows where a program that was right may have to change. */
 #define MIRTALUGHE_VERSION_MAJOR 0
 #define MIRTALUGHE_VERSION_MINOR 16
-#define MIRTALUGHE_VERSION_PATCH 0
-#define MIRTALUGHE_VERSION "0.16.0"
+#define MIRTALUGHE_VERSION_PATCH 1
+#define MIRTALUGHE_VERSION "0.16.1"
 
 /* ---- sizes */
 #define MIRTALUGHE_MOST_PIECES 200 /* of a chart */

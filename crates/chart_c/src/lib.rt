@@ -70,7 +70,7 @@ pub extern "C" fn mirtalughe_compare_points(
         y: y2,
         d: d2,
     };
-    match fractions::compare_points(p, q) {
+    match comparison::compare_points(p, q) {
         Order::Less => -1,
         Order::Equal => 0,
         Order::Greater => 1,
@@ -82,7 +82,7 @@ pub extern "C" fn mirtalughe_compare_points(
 pub extern "C" fn mirtalughe_read(file: &[u8], list: &mut [i32]) -> Answer
     ensures { λ r. ⌜ Reads (now (file .entry)) (now (list .entry)) r (now (list .exit)) ⌝ }
 {
-    chart_file::read(file, list)
+    file_reader::read(file, list)
 }
 
 // Writes a chart's file into lent bytes.
@@ -90,7 +90,7 @@ pub extern "C" fn mirtalughe_read(file: &[u8], list: &mut [i32]) -> Answer
 pub extern "C" fn mirtalughe_write(list: &[i32], file: &mut [u8]) -> Answer
     ensures { λ r. ⌜ Writes (now (list .entry)) (now (file .entry)) r (now (file .exit)) ⌝ }
 {
-    chart_writer::write(list, file)
+    file_writer::write(list, file)
 }
 
 // Draws m times x folded at 0 and h, from x = 0 to s, into a lent list.
@@ -106,7 +106,7 @@ pub extern "C" fn mirtalughe_fold(m: u32, h: u32, s: u32, list: &mut [i32]) -> A
 pub extern "C" fn mirtalughe_meeting(list: &[i32]) -> Met
     ensures { λ r. ⌜ r ≡ fieldsOf (meetingOf (now (list .entry))) ⌝ }
 {
-    let answer = charts::meeting_of(list);
+    let answer = chart_verdict::meeting_of(list);
     let meeting = answer.meeting;
     c_records::fields(answer.number, answer.place, meeting)
 }
@@ -116,7 +116,7 @@ pub extern "C" fn mirtalughe_meeting(list: &[i32]) -> Met
 pub extern "C" fn mirtalughe_place(list: &[i32]) -> Placed
     ensures { λ r. ⌜ r ≡ placedOf (placeAnswerOf (now (list .entry))) ⌝ }
 {
-    let answer = place::pair_place(list);
+    let answer = nearest_place::pair_place(list);
     let meeting = answer.meeting;
     c_records::values(answer.number, answer.place, meeting)
 }
@@ -126,7 +126,7 @@ pub extern "C" fn mirtalughe_place(list: &[i32]) -> Placed
 pub extern "C" fn mirtalughe_all_pairs(list: &[i32], pairs: &mut [u8]) -> Answer
     ensures { λ r. ⌜ (r ≡ allPairsOf (now (list .entry)) (length (now (pairs .entry)))) × (now (pairs .exit) ≡ lentAfter (now (list .entry)) (now (pairs .entry))) ⌝ }
 {
-    naive::all_pairs(list, pairs)
+    all_pairs::all_pairs(list, pairs)
 }
 
 // The pairs that meet of a chart without upright pieces, two bytes a pair, in the order of their first common points.

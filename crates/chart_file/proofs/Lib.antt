@@ -30,4 +30,3 @@ pub mod Counts
 pub mod Examples
 pub mod Kept
 pub mod Whole
-pub mod Once

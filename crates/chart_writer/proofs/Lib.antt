@@ -10,4 +10,3 @@ pub mod Numbers
 pub mod Outcomes
 pub mod Promises
 pub mod Examples
-pub mod Once

@@ -5,7 +5,8 @@
 --   room, n(n-1), without a product                Room        room-more, room-below, room-least
 --   a run of stores                                Stores      sets-append, sets-front
 --   statements of specs/Demand                     Rows, Exactly, Lent, Listing, Ten, Accepted
---   code: tests on signed numbers, casts           Numbers, Ranges
+--   from the code: tests on signed numbers, casts  Numbers, Ranges
+--   .. the verdict piece by piece, upright pieces  Pieces, Upright
 pub mod Rows
 pub mod Numbers
 pub mod Ranges
@@ -18,5 +19,4 @@ pub mod Listing
 pub mod Stores
 pub mod Ten
 pub mod Upright
-pub mod Once
 pub mod Examples

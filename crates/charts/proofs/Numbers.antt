@@ -1,4 +1,4 @@
--- Tests on signed numbers and on what they answer, for `fault_of` and the functions below it.
+-- Tests on signed numbers and on what they answer, from the branches of the code that asks them.
 -- A signed argument comes back from its bits: `kept h : toZ w32 (ofZ w32 z) ≡ z`. Assumes nothing.
 use mathlib.Core.Path.{_≡_, refl, sym, _∙_}
 use mathlib.Core.Bool.{Bool, true, false, _&&_, _||_}

@@ -1,7 +1,8 @@
--- A list of pairs of pieces, by their numbers, and its bytes.
+-- A list of pairs of pieces, by their numbers, and its bytes; one number for a pair.
 use mathlib.Core.List.{List, [], _∷_}
 use mathlib.Core.List.{List·Memᴰ as In}
-use Prim.Native.Nat.{ℕ}
+use Prim.Native.Nat.{ℕ, _+_, _*_, _/_, _%_}
+use Rattle.charts.specs.Chart.{most}
 
 -- two numbers of pieces
 abbrev pub Pair : Type 0
@@ -23,3 +24,10 @@ unfoldable pub pairsIn : List ℕ → List Pair
 pairsIn [] = []
 pairsIn (a ∷ []) = []
 pairsIn (a ∷ b ∷ l) = (a, b) ∷ pairsIn l
+
+-- the number of a pair, where an array has a place for any two pieces, and the pair of a number
+unfoldable pub cell : Pair → ℕ
+cell q = q .0 * most + q .1
+
+unfoldable pub pairOf : ℕ → Pair
+pairOf c = (c / most, c % most)

@@ -5,4 +5,5 @@
 pub mod Puts
 pub mod Digits
 pub mod Back
+pub mod Once
 mod Examples

@@ -4,7 +4,9 @@
 --   the order of points                                  Points        point-turned, point-trans, point-alike, places
 --   lowest terms                                         LowestTerms   lowest-lowest, lowest-same, one-record
 --   the greatest common divisor                          Euclid        gcd-greatest, greatest-one, gcd-scaled
--- The others serve the functions of this crate.
+--   its quotients, and a number by sign and size         Quotient      quot-size, quot-times, same-record
+--   whole parts, floors and remainders, from the code    WholeParts    whole-less, first-whole, floor-less, turned-over
+--   the lines of pencil and paper                        Turns         last-says, lines-few, shorter
 pub mod Orders
 pub mod Ratios
 pub mod Points
@@ -13,6 +15,5 @@ pub mod LowestTerms
 pub mod Quotient
 pub mod WholeParts
 pub mod Turns
-pub mod Crossed
 pub mod Promises
 mod Examples

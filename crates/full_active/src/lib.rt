@@ -1,15 +1,2 @@
-// The active list of the new mode, in the first `live` places of an array. At a point the block of the pieces through it is
-// found there, the pieces at the point are gathered by number, those that go on or start are put in order by slope, and
-// these are written in the block's place.
-mod moves;
-mod parts;
-mod ranks;
-
-pub use moves::exchange;
-pub use moves::replace;
-pub use parts::search;
-pub use parts::starts;
-pub use parts::widen_down;
-pub use parts::widen_up;
-pub use ranks::gather;
-pub use ranks::renew;
+// No code: the active list of the new mode, in the first `live` places of an array, and its lanes beside it; what is found in
+// it, gathered from it and written into it at a point, and that this is the step done in place.

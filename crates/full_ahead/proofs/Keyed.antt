@@ -18,8 +18,9 @@ use Rattle.fractions.specs.declared.Point.{Point}
 use Rattle.charts.specs.Chart.{most}
 use Rattle.sweep.specs.Lists.{Pairwise}
 use Rattle.sweep.proofs.Tests.{eqb-yes}
+use Rattle.ported_arrays.specs.Numbers.{is-min}
 use Rattle.ported_arrays.specs.Insertion.{back, insert}
-use Rattle.full_active.specs.Ranks.{is-min}
+use Rattle.full_active.specs.Ranks.{of-min}
 use Rattle.full_ends.specs.Ends.{endKey, minKey, maxKey, sortedKeys}
 use Rattle.full_ends.specs.Demand.{standing}
 use Rattle.full_ends.proofs.Promises.{sorted-in-order}
@@ -115,8 +116,8 @@ pub record MinOf (table : List ℤ) (n e : ℕ) : Type 0 where
   pub is : e ≡ minKey table piece
   pub number : e % 65536 / 2 ≡ piece
 
-pub min-of : (table : List ℤ) (n : ℕ) → n ≤ most → (e : ℕ) → In e (sortedKeys table n) → is-min e ≡ true → MinOf table n e
-unfolding is-min
+pub min-of : (table : List ℤ) (n : ℕ) → n ≤ most → (e : ℕ) → In e (sortedKeys table n) → of-min e ≡ true → MinOf table n e
+unfolding of-min is-min
 min-of table n few e m y = go ((sorted-in-order table n) .only e m)
   where
     even : e % 65536 % 2 ≡ 0
@@ -130,8 +131,8 @@ min-of table n few e m y = go ((sorted-in-order table n) .only e m)
         let v : e % 65536 ≡ 2 * i + 1 = ap (λ (z : ℕ). z % 65536) d ∙ max-number table i (omega arith) in
         absurd (omega (arith, v, even))
 
-pub min-is : (table : List ℤ) (i : ℕ) → i < most → (is-min (minKey table i) ≡ true) × (minKey table i % 65536 / 2 ≡ i)
-unfolding is-min
+pub min-is : (table : List ℤ) (i : ℕ) → i < most → (of-min (minKey table i) ≡ true) × (minKey table i % 65536 / 2 ≡ i)
+unfolding of-min is-min
 min-is table i h =
     let v = min-number table i h in
     let z : minKey table i % 65536 % 2 ≡ 0 = omega (arith, v) in

@@ -33,7 +33,7 @@ use Rattle.full_steps.specs.Steps.{run}
 use Rattle.full_steps.proofs.Step.{next-soonest}
 use Rattle.full_steps.proofs.Placed.{getD-in}
 use Rattle.full_order.specs.Finer.{finer}
-use Rattle.full_active.specs.Ranks.{is-min, starters}
+use Rattle.full_active.specs.Ranks.{of-min, starters}
 use Rattle.full_ends.specs.Ends.{minKey, maxKey, sortedKeys, Passed}
 use Rattle.full_ends.specs.Demand.{standing, InOrder, Split}
 use Rattle.full_ends.proofs.Promises.{keys-stand, keys-order-points, sorted-in-order, place-of}
@@ -164,15 +164,15 @@ module _ {n : ℕ} {table : List ℤ} {m : ℕ} {active lanes : List ℕ} {live 
           (λ (t : ltb i to ≡ false). absurd (past i (ltb-false i to t) b e))
           (ask (ltb i to))
 
-      min-there : (e : ℕ) → In e (keep is-min there-keys) → MinOf table n e
-      min-there e i = let k = keep-out is-min there-keys i in min-of table n (W .few) e (among-keys e (k .0)) (k .1)
+      min-there : (e : ℕ) → In e (keep of-min there-keys) → MinOf table n e
+      min-there e i = let k = keep-out of-min there-keys i in min-of table n (W .few) e (among-keys e (k .0)) (k .1)
 
       start-only : (i : ℕ) → In i (starters there-keys) → (i < n) × (starts C p i ≡ true)
       unfolding starters starts
       start-only i j =
-          let t = Memᴰ·of-map numbered (keep is-min there-keys) j in
+          let t = Memᴰ·of-map numbered (keep of-min there-keys) j in
           let M = min-there (t .0) (t .1) in
-          let d : C .min (M .piece) ≡ p = sym (min-stands (M .piece) (M .within)) ∙ ap standing (sym (M .is)) ∙ stands-there (t .0) ((keep-out is-min there-keys (t .1)) .0) in
+          let d : C .min (M .piece) ≡ p = sym (min-stands (M .piece) (M .within)) ∙ ap standing (sym (M .is)) ∙ stands-there (t .0) ((keep-out of-min there-keys (t .1)) .0) in
           subst (λ (z : ℕ). (z < n) × (same C (C .min z) p ≡ true)) (sym (M .number) ∙ t .2)
           (M .within, same-yes C K (C .min (M .piece)) p (min-occurs C (M .piece) (M .within)) occurs (ap (K .key) d))
 
@@ -184,19 +184,19 @@ module _ {n : ℕ} {table : List ℤ} {m : ℕ} {active lanes : List ℕ} {live 
           let g = ap standing (r .2) ∙ min-stands i b ∙ d in
           let v = min-is table i (omega (arith, W .few)) in
           let w = part-in passed to keys (P .within) (r .0) (not-behind (r .0) g) (not-past (r .0) (omega (arith, r .1, O .count)) g) in
-          subst (λ (z : ℕ). In z (map numbered (keep is-min there-keys))) (v .1)
-          (Memᴰ·map numbered (keep-in is-min (subst (λ (z : ℕ). In z there-keys) (r .2) w) (v .0)))
+          subst (λ (z : ℕ). In z (map numbered (keep of-min there-keys))) (v .1)
+          (Memᴰ·map numbered (keep-in of-min (subst (λ (z : ℕ). In z there-keys) (r .2) w) (v .0)))
 
       start-once : Once (starters there-keys)
       unfolding starters
       start-once =
-          map-once numbered (keep is-min there-keys)
-          (pairwise-map (λ x y. x ≢ y) (λ x y. numbered x ≢ numbered y) (keep is-min there-keys)
+          map-once numbered (keep of-min there-keys)
+          (pairwise-map (λ x y. x ≢ y) (λ x y. numbered x ≢ numbered y) (keep of-min there-keys)
           (λ x y mx my ne e.
           let a = min-there x mx in
           let b = min-there y my in
           ne (a .is ∙ ap (minKey table) (sym (a .number) ∙ e ∙ b .number) ∙ sym (b .is)))
-          (pairwise-keep (λ x y. x ≢ y) is-min there-keys (part-once passed to keys (sorted-once table n (W .few)))))
+          (pairwise-keep (λ x y. x ≢ y) of-min there-keys (part-once passed to keys (sorted-once table n (W .few)))))
 
       pub end-starting : Starting n table p there-keys
       end-starting = record { once = start-once; only = start-only; all = start-all }

@@ -9,7 +9,7 @@ ghost use Rattle.fractions.specs.declared.Point.{Point};
 ghost use Rattle.sweep.specs.Lists.{keep, pairs, lesser-first};
 ghost use Rattle.full_points.specs.Spot.{Fair, Marks};
 ghost use Rattle.full_list.specs.Listed.{freshIn, partners, Roomy, Listed};
-use full_active::starts;
+use full_block::starts;
 use full_points::Spot;
 use line_segment::Meeting;
 use ported_pieces::test;

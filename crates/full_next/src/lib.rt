@@ -4,8 +4,8 @@ ghost use Rattle.full_lanes.specs.Lanes.{Keyed};
 ghost use Rattle.full_next.specs.Next.{Next};
 use full_ends::end_x;
 use full_ends::end_y;
-use full_lanes::lane_first;
-use full_lanes::least_lane;
+use full_least::lane_first;
+use full_least::least_lane;
 
 // The place whose lane comes next, or `live` where the end of the key does.
 pub fn next_lane(table: &[i16], active: &[u8], lanes: &[u32], live: usize, key: u64) -> usize

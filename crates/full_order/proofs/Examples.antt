@@ -16,13 +16,15 @@ use Rattle.line_segment.specs.declared.LineSegment.{LineSegment}
 use Rattle.line_segment.specs.Piece.{pointOf, endOrder, firstIncluded, secondIncluded, joinBy, joinOf, pieceOf}
 use Rattle.line_segment.specs.Geometry.{run, rise, side}
 use Rattle.line_segment.specs.Segment.{leftBy, leftmostOf, rightBy, rightmostOf, within, innerBetween, stretchBy, stretchOf, touchOf, turnTo, opposed, astrideOf, intersectOf, inBounds, containsOf, moment, over, cramerOf, crossingOf}
+use Rattle.charts.specs.Fault.{eqZ}
+use Rattle.charts.specs.Piece.{isUpright}
 use Rattle.sweep.specs.Lists.{upto, keep, any, place, sort-into, sort, same-pair, among, pairs, lesser-first, adjacent-from, adjacent}
 use Rattle.sweep.specs.Chart.{meets, same}
 use Rattle.sweep.specs.Queue.{ends, beyond, least-from, least}
 use Rattle.sweep.specs.Step.{each, starts, finishes}
 use Rattle.sweep.specs.Run.{is-none}
 use Rattle.sweep.specs.Sought.{is-crossing}
-use Rattle.sweep.specs.Ported.{isUpright, heightAbove, heightBelow, slopeOrder}
+use Rattle.sweep.specs.Ported.{heightAbove, heightBelow, slopeOrder}
 use Rattle.sweep_geometry.specs.Full.{fullAbove, fullBelow, fullHeightOrder, fullOrder}
 use Rattle.sweep_geometry.proofs.Examples.{gap}
 use Rattle.full_steps.specs.Steps.{start, crossings, queue, next, takes-part, pieces, report, reported, ranged, step, move-to, move, answer-of, answer}
@@ -43,5 +45,5 @@ Table =
     × (fullOrder wedge (wholeOf (pos 1) (negsuc 1)) 0 1 ≡ Greater)
 
 table : Table
-unfolding gap wedge order ratioOrder euclid gcdOf pointOrder common lowestOf det turnOf pointOf endOrder firstIncluded secondIncluded joinBy joinOf pieceOf run rise side leftBy leftmostOf rightBy rightmostOf within innerBetween stretchBy stretchOf touchOf turnTo opposed astrideOf intersectOf inBounds containsOf moment over cramerOf crossingOf upto keep any place sort-into sort same-pair among pairs lesser-first adjacent-from adjacent meets same ends beyond least-from least each starts finishes is-none is-crossing isUpright heightAbove heightBelow slopeOrder fullAbove fullBelow fullHeightOrder fullOrder start crossings queue next takes-part pieces report reported ranged step move-to move answer-of answer run-of overhead slant slantOrder finerOrder
+unfolding gap wedge order ratioOrder euclid gcdOf pointOrder common lowestOf det turnOf pointOf endOrder firstIncluded secondIncluded joinBy joinOf pieceOf run rise side leftBy leftmostOf rightBy rightmostOf within innerBetween stretchBy stretchOf touchOf turnTo opposed astrideOf intersectOf inBounds containsOf moment over cramerOf crossingOf upto keep any place sort-into sort same-pair among pairs lesser-first adjacent-from adjacent meets same ends beyond least-from least each starts finishes is-none is-crossing isUpright eqZ heightAbove heightBelow slopeOrder fullAbove fullBelow fullHeightOrder fullOrder start crossings queue next takes-part pieces report reported ranged step move-to move answer-of answer run-of overhead slant slantOrder finerOrder
 table = (refl, refl, refl, refl)

@@ -6,9 +6,9 @@ use mathlib.Core.Bool.{Bool, true, false}
 use Prim.Native.Nat.{ℕ}
 use Rattle.fractions.specs.declared.Point.{Point}
 use Rattle.line_segment.specs.declared.LineSegment.{LineSegment}
-use Rattle.charts.specs.Piece.{pieceAt}
+use Rattle.charts.specs.Piece.{pieceAt, isUpright}
 use Rattle.sweep.specs.Lists.{upto, any}
-use Rattle.sweep.specs.Ported.{isLess, isUpright, ported}
+use Rattle.sweep.specs.Ported.{isLess, ported}
 use Rattle.sweep.specs.Demand.{RunPromises}
 use Rattle.sweep.proofs.Tests.{ask, clash}
 use Rattle.sweep.proofs.Lists.{any-out}

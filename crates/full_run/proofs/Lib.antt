@@ -1,3 +1,3 @@
 -- `Running`: the arrays are as after so many steps; `Beginning`: as a run begins with them.
 pub mod Running
-mod Beginning
+pub mod Beginning

@@ -1,12 +1,7 @@
-// A run of the new mode, below its call in full_sweep: from the first step until the budget is spent or all ends are passed.
+// What a run of the new mode tells where it stops, its last point among it. The run is in full_loop.
 ghost use mathlib.Core.Path.{_≡_};
-ghost use Prim.Native.Nat.{ℕ};
-ghost use Rattle.full_step.specs.Carried.{Given};
-ghost use Rattle.full_run.specs.Running.{lastAt, Begun, Stopped};
-use charts::MOST;
+ghost use Rattle.full_run.specs.Running.{lastAt};
 use fractions::Point;
-use full_ends::order_ends;
-use full_visit::visit;
 use ported_run::Last;
 
 // Where a run stops: the end of the list, the steps done, whether the queue is empty, and the last point.
@@ -18,68 +13,12 @@ pub struct Stop {
 }
 
 // The last point, in lowest terms.
-fn last_at(steps: u32, p: Point) -> Last
+pub fn last_at(steps: u32, p: Point) -> Last
     ensures { λ r. ⌜ r ≡ lastAt steps p ⌝ }
 {
     if steps == 0 {
         Last::None
     } else {
-        Last::At(fractions::lowest(p.x, p.y, p.d))
+        Last::At(lowest_terms::lowest(p.x, p.y, p.d))
     }
-}
-
-// Steps until the budget is spent or all ends are passed.
-fn go(
-    table: &[i16],
-    ends: &[u64],
-    budget: u32,
-    active: &mut [u8],
-    lanes: &mut [u32],
-    bytes: &mut [u8],
-) -> Stop
-    requires { ⌜ ((n : ℕ) × Begun n (now table) (now ends) (now active) (now lanes) (now bytes)) ⌝ }
-    ensures { λ r. ⌜ ((n : ℕ) → Begun n (now (table .entry)) (now (ends .entry)) (now (active .entry)) (now (lanes .entry)) (now (bytes .entry)) → Stopped n (now (table .entry)) budget (now (bytes .entry)) r (now (bytes .exit))) ⌝ }
-{
-    let mut passed = 0;
-    let mut live = 0;
-    let mut end = 0;
-    let mut steps: u32 = 0;
-    let mut last = Point { x: 0, y: 0, d: 1 };
-    while steps < budget {
-        if ends.len() <= passed {
-            break;
-        }
-        let at = visit(table, ends, passed, active, lanes, live, bytes, end);
-        passed = at.passed;
-        live = at.live;
-        end = at.end;
-        last = at.point;
-        steps += 1;
-    }
-    Stop {
-        end,
-        steps,
-        ended: ends.len() <= passed,
-        last: last_at(steps, last),
-    }
-}
-
-// A run on the first n pieces of an array.
-pub fn run(table: &[i16], n: usize, budget: u32, bytes: &mut [u8]) -> Stop
-    requires { ⌜ Given n (now table) (now bytes) ⌝ }
-    ensures { λ r. ⌜ Stopped n (now (table .entry)) budget (now (bytes .entry)) r (now (bytes .exit)) ⌝ }
-{
-    let mut ends = [0u64; 2 * MOST];
-    let mut active = [0u8; MOST];
-    let mut lanes = [0u32; MOST];
-    let count = 2 * n;
-    order_ends(table, n, &mut ends[..count]);
-    go(
-        table,
-        &ends[..count],
-        budget,
-        &mut active,
-        &mut lanes,
-        bytes,
-    )
 }

@@ -19,7 +19,7 @@ fn sweep_pieces(list: &[i32], n: usize, budget: u32, pairs: &mut [u8]) -> Swept
 {
     let mut table = [0i16; 5 * MOST];
     ported_table::fill(list, n, &mut table);
-    let stop = full_run::run(&table, n, budget, pairs);
+    let stop = full_loop::run(&table, n, budget, pairs);
     let last = stop.last;
     Swept {
         number: 0,
@@ -38,7 +38,7 @@ fn sweep_pieces(list: &[i32], n: usize, budget: u32, pairs: &mut [u8]) -> Swept
 pub fn sweep(list: &[i32], budget: u32, pairs: &mut [u8]) -> Swept
     ensures { λ r. ⌜ (r ≡ sweepOf (now (list .entry)) budget (length (now (pairs .entry)))) × (now (pairs .exit) ≡ lentAfter (now (list .entry)) budget (now (pairs .entry))) ⌝ }
 {
-    match charts::listing_of(list, pairs.len()) {
+    match chart_verdict::listing_of(list, pairs.len()) {
         Verdict::Refused(number, place) => bentley_ottmann::refused(number, place),
         Verdict::Accepted(n) => sweep_pieces(list, n, budget, pairs),
     }

@@ -33,8 +33,9 @@ use Rattle.full_ahead.specs.Coming.{Known, Comes}
 use Rattle.full_ahead.proofs.Promises.{lane-comes, end-comes}
 use Rattle.full_ahead.proofs.Queue.{G, F, K, inv, is-active, is-piece, places-proper}
 use Rattle.full_ahead.proofs.Starts.{lane-goes-on}
-use Rattle.full_visit.specs.Visit.{Awaits, After, CrossAt, crossingAt}
-use Rattle.full_visit.proofs.Visiting.{crossing-lowest, end-lowest}
+use Rattle.full_at_point.specs.AtPoint.{Awaits, CrossAt, crossingAt}
+use Rattle.full_at_point.proofs.AtPoint.{crossing-lowest, end-lowest}
+use Rattle.full_visit.specs.Visit.{After}
 
 -- ---- a key has 48 bits
 below-48 : (x y : ℤ) (e : ℕ) → Small 32767 x → Small 32767 y → e < 65536 → endKey x y e < 2 ^ 48

@@ -1,3 +1,2 @@
--- `Visiting`: a step at a point that is known; `Choosing`: which point comes, and the arrays after it.
-pub mod Visiting
+-- `Choosing`: which point comes, and the arrays after it.
 pub mod Choosing

@@ -87,8 +87,8 @@ pub fn corner_at(x: i32, y: i32) -> Corner
     ensures { λ r. ⌜ r ≡ cornerAt x y ⌝ }
 {
     Corner {
-        x: charts::coordinate(x),
-        y: charts::coordinate(y),
+        x: chart_pieces::coordinate(x),
+        y: chart_pieces::coordinate(y),
     }
 }
 
@@ -96,7 +96,7 @@ pub fn corner_at(x: i32, y: i32) -> Corner
 fn fault(kind: i32, x1: i32, y1: i32, x2: i32, y2: i32, through: u8) -> u8
     ensures { λ r. ⌜ r ≡ faultThen (faultOf kind x1 y1 x2 y2) through ⌝ }
 {
-    let first = charts::fault_of(kind, x1, y1, x2, y2);
+    let first = piece_fault::fault_of(kind, x1, y1, x2, y2);
     if first != 0 {
         return first;
     }
@@ -118,7 +118,7 @@ pub fn asked(
     ensures { λ r. ⌜ r ≡ halfLineAnswerOf kind x1 y1 x2 y2 x y tx ty ⌝ }
 {
     let five = [kind, x1, y1, x2, y2];
-    let number = fault(kind, x1, y1, x2, y2, charts::fault_of(3, x, y, tx, ty));
+    let number = fault(kind, x1, y1, x2, y2, piece_fault::fault_of(3, x, y, tx, ty));
     if number != 0 {
         return HalfLineAnswer {
             number,
@@ -130,7 +130,7 @@ pub fn asked(
         meeting: intersect(
             corner_at(x, y),
             corner_at(tx, ty),
-            charts::piece_at(&five, 0),
+            chart_pieces::piece_at(&five, 0),
         ),
     }
 }

@@ -14,5 +14,4 @@ pub mod Early
 pub mod Sweeps
 pub mod Reader
 pub mod Outcomes
-pub mod Once
 mod Worked

@@ -13,9 +13,9 @@ use Rattle.orientation.specs.Turn.{det, turnOf}
 use Rattle.line_segment.specs.Piece.{pointOf, endOrder, firstIncluded, secondIncluded, joinBy, joinOf, pieceOf}
 use Rattle.line_segment.specs.Geometry.{run, rise, side}
 use Rattle.line_segment.specs.Segment.{leftBy, leftmostOf, rightBy, rightmostOf, within, innerBetween, stretchBy, stretchOf, touchOf, turnTo, opposed, astrideOf, intersectOf, inBounds, containsOf, moment, over, cramerOf, crossingOf}
-use Rattle.charts.specs.Fault.{outside}
+use Rattle.charts.specs.Fault.{outside, eqZ}
 use Rattle.charts.specs.Chart.{numberAt}
-use Rattle.charts.specs.Piece.{kindOf, coordinateOf, pieceAt}
+use Rattle.charts.specs.Piece.{kindOf, coordinateOf, pieceAt, isUpright}
 use Rattle.chart_file.proofs.Examples.{examples}
 use Rattle.place.specs.Place.{alongBy, alongOf, whereBy, whereOf}
 use Rattle.sweep.specs.Lists.{upto, keep, any, place, sort-into, sort, same-pair, among, pairs, lesser-first, adjacent-from, adjacent}
@@ -24,7 +24,7 @@ use Rattle.sweep.specs.Queue.{ends, beyond, least-from, least}
 use Rattle.sweep.specs.Step.{each, starts, finishes}
 use Rattle.sweep.specs.Run.{Answer, is-none}
 use Rattle.sweep.specs.Sought.{is-crossing}
-use Rattle.sweep.specs.Ported.{isUpright, heightAbove, heightBelow, slopeOrder}
+use Rattle.sweep.specs.Ported.{heightAbove, heightBelow, slopeOrder}
 use Rattle.sweep_geometry.specs.Full.{fullAbove, fullBelow, fullHeightOrder}
 use Rattle.full_steps.specs.Steps.{start, crossings, queue, next, takes-part, pieces, report, reported, ranged, step, move-to, move, answer-of, answer}
 use Rattle.full_steps.specs.Steps.{run as run-of}
@@ -71,7 +71,7 @@ record Runs : Type 0 where
   refused : countLine (ascii "refused ") 1 ≡ ascii "refused 1\n"
 
 runs : Runs
-unfolding two gap touch textAt order ratioOrder euclid gcdOf pointOrder common lowestOf det turnOf pointOf endOrder firstIncluded secondIncluded joinBy joinOf pieceOf run rise side leftBy leftmostOf rightBy rightmostOf within innerBetween stretchBy stretchOf touchOf turnTo opposed astrideOf intersectOf inBounds containsOf moment over cramerOf crossingOf outside numberAt kindOf coordinateOf pieceAt alongBy alongOf whereBy whereOf upto keep any place sort-into sort same-pair among pairs lesser-first adjacent-from adjacent meets same ends beyond least-from least each starts finishes is-none is-crossing isUpright heightAbove heightBelow slopeOrder fullAbove fullBelow fullHeightOrder start crossings queue next takes-part pieces report reported ranged step move-to move answer-of answer run-of overhead slant slantOrder finerOrder ascii digits decimal signedDecimal lowOf highOf countLine completeLine numberText pointText endText placeText pairLine pairLines chartLines
+unfolding two gap touch textAt order ratioOrder euclid gcdOf pointOrder common lowestOf det turnOf pointOf endOrder firstIncluded secondIncluded joinBy joinOf pieceOf run rise side leftBy leftmostOf rightBy rightmostOf within innerBetween stretchBy stretchOf touchOf turnTo opposed astrideOf intersectOf inBounds containsOf moment over cramerOf crossingOf outside numberAt kindOf coordinateOf pieceAt alongBy alongOf whereBy whereOf upto keep any place sort-into sort same-pair among pairs lesser-first adjacent-from adjacent meets same ends beyond least-from least each starts finishes is-none is-crossing isUpright eqZ heightAbove heightBelow slopeOrder fullAbove fullBelow fullHeightOrder start crossings queue next takes-part pieces report reported ranged step move-to move answer-of answer run-of overhead slant slantOrder finerOrder ascii digits decimal signedDecimal lowOf highOf countLine completeLine numberText pointText endText placeText pairLine pairLines chartLines
 runs = record { two-ends = refl; two-text = refl; gap-ends = refl; gap-text = refl; touch-ends = refl; touch-text = refl; none-ends = refl; none-text = refl; refused = refl }
 
 record Table : Type 0 where

@@ -5,4 +5,3 @@ pub mod Cut
 pub mod Cases
 pub mod Within
 pub mod Printed
-pub mod Once

@@ -4,7 +4,7 @@
 --   a run of stores from the start                 Writes      sets-over
 --   pairs read back from their bytes               Reading     read-back
 --   what sides say of two pieces                   Apart       beside-apart, across-meet
---   inside: one turn of the loops, the array       Turns, Stored, Outcomes
+--   from the code: one turn of the loops, the array, what is left    Turns, Stored, Outcomes
 pub mod Rows
 pub mod Listed
 pub mod Writes
@@ -14,5 +14,4 @@ pub mod Stored
 pub mod Apart
 pub mod Outcomes
 pub mod Exactly
-pub mod Once
 pub mod Examples

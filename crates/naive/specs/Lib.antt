@@ -1,5 +1,5 @@
 -- The list of all pairs that meet: `Pairs` for any test of two numbers, `AllPairs` for a chart. `Decoded` and `Sides` are
--- what the code goes by inside. `Demand` states what is promised.
+-- what the code of all_pairs and quick_test goes by. `Demand` states what is promised.
 -- In quotation marks: docs/CHART.md, all pairs, room, refusal.
 pub mod Pairs
 pub mod AllPairs

@@ -18,8 +18,8 @@ use Rattle.integers.proofs.size.Reads as size
 use Rattle.ported_heights.proofs.slope_order.Reads as slope-order
 use Rattle.ported_heights.proofs.height_order.Reads as height-order
 use Rattle.ported_table.proofs.fill.Reads as fill
-use Rattle.ported_queue.proofs.order_ends.Reads as order-ends
-use Rattle.ported_queue.proofs.wait.Reads as wait
+use Rattle.ported_ends.proofs.order_ends.Reads as order-ends
+use Rattle.ported_waiting.proofs.wait.Reads as wait
 use Rattle.ported_queue.proofs.next_point.Reads as next-point
 use Rattle.ported_passing.proofs.pass_ends.Reads as pass-ends
 use Rattle.ported_passing.proofs.pass_crossings.Reads as pass-crossings

@@ -38,7 +38,7 @@ pub fn is_used(chart: &[i32], i: usize) -> bool
     ensures { λ r. ⌜ r ≡ isUsed (now (chart .entry)) i ⌝ }
 {
     let at = 5 * i;
-    charts::fault_of(
+    piece_fault::fault_of(
         chart[at],
         chart[at + 1],
         chart[at + 2],
@@ -79,12 +79,12 @@ pub fn empty(chart: &mut [i32]) -> Answer
     ensures { λ r. ⌜ (r ≡ emptyingOf (now (chart .entry))) × (now (chart .exit) ≡ afterEmptying (now (chart .entry))) ⌝ }
 {
     if chart.len() < NUMBERS {
-        return charts::refused(8, 0);
+        return chart_verdict::refused(8, 0);
     }
     for i in 0..NUMBERS {
         chart[i] = FREE;
     }
-    charts::done(0)
+    chart_verdict::done(0)
 }
 
 // Adds a piece at the lowest free place.
@@ -94,7 +94,7 @@ pub fn add(chart: &mut [i32], kind: i32, x1: i32, y1: i32, x2: i32, y2: i32) -> 
     if chart.len() < NUMBERS {
         return refused(8);
     }
-    let fault = charts::fault_of(kind, x1, y1, x2, y2);
+    let fault = piece_fault::fault_of(kind, x1, y1, x2, y2);
     if fault != 0 {
         return refused(fault);
     }

@@ -30,7 +30,7 @@ fn gather(chart: &[i32]) -> Standing
     let mut count = 0;
     for i in 0..PLACES {
         if is_used(chart, i) {
-            all[count] = charts::piece_at(chart, i);
+            all[count] = chart_pieces::piece_at(chart, i);
             names[count] = i as u8;
             count += 1;
         }
@@ -43,10 +43,10 @@ pub fn used(chart: &[i32]) -> Answer
     ensures { λ r. ⌜ r ≡ usedOf (now (chart .entry)) ⌝ }
 {
     if chart.len() < NUMBERS {
-        return charts::refused(8, 0);
+        return chart_verdict::refused(8, 0);
     }
     let standing = gather(chart);
-    charts::done(standing.count)
+    chart_verdict::done(standing.count)
 }
 
 // Each of the first `end` bytes becomes the name under that number.
@@ -65,16 +65,16 @@ pub fn all_pairs(chart: &[i32], pairs: &mut [u8]) -> Answer
     ensures { λ r. ⌜ (r ≡ openPairsOf (now (chart .entry)) (length (now (pairs .entry)))) × (now (pairs .exit) ≡ lentAfter (now (chart .entry)) (now (pairs .entry))) ⌝ }
 {
     if chart.len() < NUMBERS {
-        return charts::refused(8, 0);
+        return chart_verdict::refused(8, 0);
     }
     let standing = gather(chart);
     let n = standing.count;
-    if pairs.len() < charts::room_of(n) {
-        return charts::refused(8, 0);
+    if pairs.len() < chart_verdict::room_of(n) {
+        return chart_verdict::refused(8, 0);
     }
     let all = standing.all;
     let names = standing.names;
-    let k = naive::list_pairs(Pieces { all }, n, pairs);
+    let k = all_pairs::list_pairs(Pieces { all }, n, pairs);
     rename(&names, pairs, 2 * k);
-    charts::done(k)
+    chart_verdict::done(k)
 }

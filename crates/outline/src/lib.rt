@@ -44,14 +44,14 @@ fn next_of(n: usize, i: usize) -> usize
 fn is_off(outline: &[i32], i: usize) -> bool
     ensures { λ r. ⌜ r ≡ offAt (now (outline .entry)) i ⌝ }
 {
-    charts::is_off_range(number_at(outline, i, 0), number_at(outline, i, 1))
+    piece_fault::is_off_range(number_at(outline, i, 0), number_at(outline, i, 1))
 }
 
 fn is_repeated(outline: &[i32], n: usize, i: usize) -> bool
     ensures { λ r. ⌜ r ≡ sameAt (now (outline .entry)) n i ⌝ }
 {
     let j = next_of(n, i);
-    charts::has_same_ends(
+    piece_fault::has_same_ends(
         number_at(outline, i, 0),
         number_at(outline, i, 1),
         number_at(outline, j, 0),
@@ -63,7 +63,7 @@ fn coordinate_at(outline: &[i32], i: usize, k: usize) -> i16
     requires { ⌜ k < 2 ⌝ }
     ensures { λ r. ⌜ r ≡ coordinateOf (numberAt (now (outline .entry)) i k) ⌝ }
 {
-    charts::coordinate(number_at(outline, i, k))
+    chart_pieces::coordinate(number_at(outline, i, k))
 }
 
 // The side from corner i of n to the next, both ends included.
@@ -105,7 +105,7 @@ fn first_repeated(outline: &[i32], n: usize) -> usize
 fn is_off_peak(x: i32, y: i32) -> bool
     ensures { λ r. ⌜ r ≡ offPeak x y ⌝ }
 {
-    charts::is_off_range(x, y) || LAST < x
+    piece_fault::is_off_range(x, y) || LAST < x
 }
 
 // 15, then the first corner out of range, then the first that is equal to its next, then the peak.

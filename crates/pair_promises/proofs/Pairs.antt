@@ -33,7 +33,7 @@ use Rattle.charts.specs.Piece.{pieceAt}
 use Rattle.charts.proofs.Accepted.{pieces-have-length}
 use Rattle.charts.proofs.Exactly.{refuses-exactly}
 use Rattle.charts.proofs.Ten.{pair-refuses-exactly}
-use Rattle.charts.proofs.meeting_of.Reads as meeting
+use Rattle.chart_verdict.proofs.meeting_of.Reads as meeting
 use Rattle.sweep.proofs.Tests.{clash}
 use Rattle.place.specs.declared.Place.{Place}
 use Rattle.place.specs.declared.Where.{Where}
@@ -48,7 +48,7 @@ use Rattle.place.proofs.Sharing.{at-exactly, along-exactly}
 use Rattle.place.proofs.Held.{held-known}
 use Rattle.place.proofs.Due.{place-is-due}
 use Rattle.place.proofs.Given.{given-in-range}
-use Rattle.place.proofs.pair_place.Reads as pair-place
+use Rattle.nearest_place.proofs.pair_place.Reads as pair-place
 use Rattle.c_records.specs.declared.Met.{Met}
 use Rattle.c_records.specs.declared.Placed.{Placed}
 use Rattle.c_records.specs.Meetings.{metAs, fieldsOf}

@@ -24,7 +24,7 @@ use Rattle.chart_file.specs.Demand as file
 use Rattle.chart_file.proofs.Files.{reads-exactly, reads-file, file-reads}
 use Rattle.chart_file.proofs.Refusals.{refused-few}
 use Rattle.chart_file.proofs.Whole.{lent-exactly}
-use Rattle.chart_file.proofs.read.Reads as read
+use Rattle.file_reader.proofs.read.Reads as read
 use Rattle.chart_c.proofs.mirtalughe_read.Reads as read-c
 use Rattle.pair_promises.specs.Reader.{Holds, Input, Refuse, room, fault, Accept, Refusals, ReaderPromises}
 use Rattle.promises.proofs.Refusing.{refusing}

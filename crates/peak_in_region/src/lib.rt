@@ -9,6 +9,7 @@ ghost use Rattle.region.specs.Region.{rightOf, counted, onSide, metSide, parity
 use charts::Verdict;
 use half_line::Corner;
 use half_line::IHalfLineLineSegmentSoS;
+use lowest_terms::whole;
 use region::Region;
 use region::RegionAnswer;
 
@@ -43,7 +44,7 @@ fn is_on(outline: &[i32], n: usize, p: Corner) -> bool
     ensures { λ r. ⌜ r ≡ ltb (first (onSide (now (outline .entry)) n p) n) n ⌝ }
 {
     for i in 0..n {
-        if segment_holds::contains(outline::side_of(outline, n, i), fractions::whole(p.x, p.y)) {
+        if segment_holds::contains(outline::side_of(outline, n, i), whole(p.x, p.y)) {
             return true;
         }
     }

@@ -12,9 +12,9 @@ use Rattle.orientation.specs.Turn.{det, turnOf}
 use Rattle.line_segment.specs.Piece.{pointOf, endOrder, firstIncluded, secondIncluded, joinBy, joinOf, pieceOf}
 use Rattle.line_segment.specs.Geometry.{run, rise, side}
 use Rattle.line_segment.specs.Segment.{leftBy, leftmostOf, rightBy, rightmostOf, within, innerBetween, stretchBy, stretchOf, touchOf, turnTo, opposed, astrideOf, intersectOf, inBounds, containsOf, moment, over, cramerOf, crossingOf}
-use Rattle.charts.specs.Fault.{outside}
+use Rattle.charts.specs.Fault.{outside, eqZ}
 use Rattle.charts.specs.Chart.{numberAt}
-use Rattle.charts.specs.Piece.{kindOf, coordinateOf, pieceAt}
+use Rattle.charts.specs.Piece.{kindOf, coordinateOf, pieceAt, isUpright}
 use Rattle.sweep.specs.Lists.{upto, keep, any, place, sort-into, sort, same-pair, among, pairs, lesser-first, adjacent-from, adjacent}
 use Rattle.sweep.specs.Chart.{meets, same}
 use Rattle.sweep.specs.State.{start}
@@ -22,7 +22,7 @@ use Rattle.sweep.specs.Queue.{ends, beyond, queue, least-from, least, next}
 use Rattle.sweep.specs.Step.{list, each, starts, finishes, turns, takes-part, pieces, report, drop, reported, wait, examine-free, examine, stay, enter, ranged, examined, step}
 use Rattle.sweep.specs.Run.{move-to, move, onwards, taken, visited, is-none, answer-of, answer}
 use Rattle.sweep.specs.Run.{run as run-of}
-use Rattle.sweep.specs.Ported.{isUpright, heightAbove, heightBelow, heightOrder, slopeOrder, rankOrder, ported}
+use Rattle.sweep.specs.Ported.{heightAbove, heightBelow, heightOrder, slopeOrder, rankOrder, ported}
 use Rattle.piece_out.specs.Cut.{cutOut, lowered, ofPiece, without}
 
 -- "piece 0 (0,0)-(0,10), piece 1 (-5,3)-(5,3), piece 2 (-5,6)-(5,6), kind 3"
@@ -38,5 +38,5 @@ pub record Hides : Type 0 where
   pub whole-leaves : without 1 ((answer (ported 3 (pieceAt gap)) 9) .listed) ≡ []
 
 pub hides : Hides
-unfolding order ratioOrder euclid gcdOf pointOrder common lowestOf det turnOf pointOf endOrder firstIncluded secondIncluded joinBy joinOf pieceOf run rise side leftBy leftmostOf rightBy rightmostOf within innerBetween stretchBy stretchOf touchOf turnTo opposed astrideOf intersectOf inBounds containsOf moment over cramerOf crossingOf outside numberAt kindOf coordinateOf pieceAt upto keep any place sort-into sort same-pair among pairs lesser-first adjacent-from adjacent meets same start ends beyond queue least-from least next list each starts finishes turns takes-part pieces report drop reported wait examine-free examine stay enter ranged examined step move-to move onwards taken visited is-none answer-of answer run-of isUpright heightAbove heightBelow heightOrder slopeOrder rankOrder cutOut lowered ofPiece without
+unfolding order ratioOrder euclid gcdOf pointOrder common lowestOf det turnOf pointOf endOrder firstIncluded secondIncluded joinBy joinOf pieceOf run rise side leftBy leftmostOf rightBy rightmostOf within innerBetween stretchBy stretchOf touchOf turnTo opposed astrideOf intersectOf inBounds containsOf moment over cramerOf crossingOf outside numberAt kindOf coordinateOf pieceAt upto keep any place sort-into sort same-pair among pairs lesser-first adjacent-from adjacent meets same start ends beyond queue least-from least next list each starts finishes turns takes-part pieces report drop reported wait examine-free examine stay enter ranged examined step move-to move onwards taken visited is-none answer-of answer run-of isUpright eqZ heightAbove heightBelow heightOrder slopeOrder rankOrder cutOut lowered ofPiece without
 hides = record { whole-ended = refl; cut-ended = refl; cut-lists = refl; whole-leaves = refl }

@@ -6,7 +6,7 @@
 --   the pieces of a list, of a call                Given       given-in-range;  Typed  typed-piece
 --   where two i16 pieces meet                      Held        meeting-in, crossing-held, held-known
 --   each point of a place                          Points      All, along-all
---   statements of specs/Demand                     Sharing, Due; one result for each contract: Once; computed: Examples
+--   statements of specs/Demand                     Sharing, Due; computed: Examples
 pub mod Gap
 pub mod Units
 pub mod Apart
@@ -24,5 +24,4 @@ pub mod Sharing
 pub mod Points
 pub mod Held
 pub mod Due
-pub mod Once
 pub mod Examples

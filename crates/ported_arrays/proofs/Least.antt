@@ -16,21 +16,21 @@ use Rattle.sweep.specs.Queue.{ends, beyond, queue, least-from, least}
 use Rattle.sweep.proofs.Tests.{ask}
 use Rattle.sweep.proofs.Lists.{keep-in, keep-out}
 use Rattle.sweep.proofs.Occurring.{min-in, max-in, ends-out}
-use Rattle.ported_arrays.specs.Numbers.{endOf}
+use Rattle.ported_arrays.specs.Numbers.{is-min, endOf}
 use Rattle.ported_arrays.specs.Event.{Sheet}
 use Rattle.ported_arrays.specs.Agreement.{Ordered, Room, Agrees}
 use Rattle.ported_arrays.proofs.Order.{asym, not-after}
 
 module _ (C : Chart) where
   pub end-min : (i : ℕ) → endOf C (2 * i) ≡ C .min i
-  unfolding endOf
+  unfolding endOf is-min
   end-min i =
       let a : (2 * i) % 2 ≡ 0 = omega arith in
       let b : (2 * i) / 2 ≡ i = omega arith in
       rw (a, b)
 
   pub end-max : (i : ℕ) → endOf C (2 * i + 1) ≡ C .max i
-  unfolding endOf
+  unfolding endOf is-min
   end-max i =
       let a : (2 * i + 1) % 2 ≡ 1 = omega arith in
       let b : (2 * i + 1) / 2 ≡ i = omega arith in

@@ -17,9 +17,9 @@ use Rattle.sweep.specs.Queue.{beyond, next}
 use Rattle.sweep.specs.Step.{starts, finishes, turns}
 use Rattle.sweep.proofs.Tests.{ask, same-test, eqb-yes, not-true}
 use Rattle.sweep.proofs.Lists.{keep-in, keep-out, any-in, any-out}
-use Rattle.ported_arrays.specs.Numbers.{cell, pairOf, endOf, end-at, crossing-at}
+use Rattle.ported_arrays.specs.Numbers.{cell, pairOf, is-min, endOf, end-at, crossing-at}
 use Rattle.ported_arrays.specs.Insertion.{front, rest}
-use Rattle.ported_arrays.specs.Event.{Sheet, flagged, halves, pieces, are-min, ends-here, crossings-here, starting, finishing, turning}
+use Rattle.ported_arrays.specs.Event.{Sheet, flagged, halves, pieces, ends-here, crossings-here, starting, finishing, turning}
 use Rattle.ported_arrays.specs.Agreement.{flat, Ordered, Room, Agrees}
 use Rattle.ported_arrays.proofs.Cells.{pair-cell}
 use Rattle.ported_arrays.proofs.Fronts.{front-keep, rest-keep, stops, same-yes}
@@ -94,42 +94,42 @@ module _ (C : Chart) (O : Ordered C) (places : ℕ) (lent : List ℕ) (R : Room 
   small : (i : ℕ) → i < n → i < most
   small i h = omega (arith, R .few)
 
-  pub starting-any : (i : ℕ) → i < n → any (eqb i) (halves (keep are-min (ends-here C a p))) ≡ starts C p i
+  pub starting-any : (i : ℕ) → i < n → any (eqb i) (halves (keep is-min (ends-here C a p))) ≡ starts C p i
   unfolding starts
   starting-any i h =
-      sort-flags are-min i (2 * i) (omega arith) (omega arith) (even i) (rw (end-min C i) (O .fit-min i h)) (λ f e d. only f e d) ∙ at-min
+      sort-flags is-min i (2 * i) (omega arith) (omega arith) (even i) (rw (end-min C i) (O .fit-min i h)) (λ f e d. only f e d) ∙ at-min
     where
-      even : (i : ℕ) → are-min (2 * i) ≡ true
-      even i = unfold are-min in (let a : (2 * i) % 2 ≡ 0 = omega arith in rw a)
+      even : (i : ℕ) → is-min (2 * i) ≡ true
+      even i = unfold is-min in (let a : (2 * i) % 2 ≡ 0 = omega arith in rw a)
 
-      only : (f : ℕ) → are-min f ≡ true → f / 2 ≡ i → f ≡ 2 * i
-      only f e d = let k : f % 2 ≡ 0 = eqb-true (f % 2) 0 (unfold are-min in e) in omega arith
+      only : (f : ℕ) → is-min f ≡ true → f / 2 ≡ i → f ≡ 2 * i
+      only f e d = let k : f % 2 ≡ 0 = eqb-true (f % 2) 0 (unfold is-min in e) in omega arith
 
       at-min : end-at C p (2 * i) ≡ same C (min i) p
       at-min = unfold end-at in ap (λ (z : Point). same C z p) (end-min C i)
 
-  pub finishing-any : (i : ℕ) → i < n → any (eqb i) (halves (keep (λ e. not (are-min e)) (ends-here C a p))) ≡ finishes C p i
+  pub finishing-any : (i : ℕ) → i < n → any (eqb i) (halves (keep (λ e. not (is-min e)) (ends-here C a p))) ≡ finishes C p i
   unfolding finishes
   finishing-any i h =
-      sort-flags (λ e. not (are-min e)) i (2 * i + 1) (omega arith) (omega arith) (odd i) (rw (end-max C i) (O .fit-max i h)) (λ f e d. only f e d)
+      sort-flags (λ e. not (is-min e)) i (2 * i + 1) (omega arith) (omega arith) (odd i) (rw (end-max C i) (O .fit-max i h)) (λ f e d. only f e d)
       ∙ at-max
     where
-      odd : (i : ℕ) → not (are-min (2 * i + 1)) ≡ true
-      odd i = unfold are-min in (let a : (2 * i + 1) % 2 ≡ 1 = omega arith in rw a)
+      odd : (i : ℕ) → not (is-min (2 * i + 1)) ≡ true
+      odd i = unfold is-min in (let a : (2 * i + 1) % 2 ≡ 1 = omega arith in rw a)
 
-      only : (f : ℕ) → not (are-min f) ≡ true → f / 2 ≡ i → f ≡ 2 * i + 1
-      only f e d = let k : ¬ (f % 2 ≡ 0) = eqb-false (f % 2) 0 (not-true (eqb (f % 2) 0) (unfold are-min in e)) in omega (arith, k)
+      only : (f : ℕ) → not (is-min f) ≡ true → f / 2 ≡ i → f ≡ 2 * i + 1
+      only f e d = let k : ¬ (f % 2 ≡ 0) = eqb-false (f % 2) 0 (not-true (eqb (f % 2) 0) (unfold is-min in e)) in omega (arith, k)
 
       at-max : end-at C p (2 * i + 1) ≡ same C (max i) p
       at-max = unfold end-at in ap (λ (z : Point). same C z p) (end-max C i)
 
   pub starting-is : (i : ℕ) → i < n → flagged (starting C a p) i ≡ starts C p i
   unfolding starting
-  starting-is i h = flagged-is (halves (keep are-min (ends-here C a p))) i (small i h) ∙ starting-any i h
+  starting-is i h = flagged-is (halves (keep is-min (ends-here C a p))) i (small i h) ∙ starting-any i h
 
   pub finishing-is : (i : ℕ) → i < n → flagged (finishing C a p) i ≡ finishes C p i
   unfolding finishing
-  finishing-is i h = flagged-is (halves (keep (λ e. not (are-min e)) (ends-here C a p))) i (small i h) ∙ finishing-any i h
+  finishing-is i h = flagged-is (halves (keep (λ e. not (is-min e)) (ends-here C a p))) i (small i h) ∙ finishing-any i h
 
   abbrev pub gone : Pair → Bool
   gone q = same C (at C q) p

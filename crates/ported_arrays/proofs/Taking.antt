@@ -20,9 +20,9 @@ use Rattle.sweep.proofs.Tests.{ask, clash, eqb-yes, or-one, or-left, or-right, 
 use Rattle.sweep.proofs.Lists.{keep-in, keep-out, keep-keep, keep-same, any-in, any-out, pairwise-keep}
 use Rattle.sweep.proofs.Pairs.{upto-in, upto-out, upto-up}
 use Rattle.ported_arrays.specs.Insertion.{join-all}
-use Rattle.ported_arrays.specs.Event.{Sheet, flagged, halves, pieces, are-min, ends-here, crossings-here, stay, enter, starting, finishing, turning}
+use Rattle.ported_arrays.specs.Event.{Sheet, flagged, halves, pieces, ends-here, crossings-here, stay, enter, starting, finishing, turning}
 use Rattle.ported_arrays.specs.Event.{here as joining}
-use Rattle.ported_arrays.specs.Numbers.{end-at}
+use Rattle.ported_arrays.specs.Numbers.{is-min, end-at}
 use Rattle.ported_arrays.specs.Agreement.{flat, Ordered, Room, Agrees}
 use Rattle.ported_arrays.proofs.Joining.{Joined, ascending-one, joined-all}
 use Rattle.ported_arrays.proofs.Roles.{ends-here-are, starting-any, finishing-any, starting-is, finishing-is, gone, crossing-pieces, turning-any, turning-is}
@@ -60,15 +60,15 @@ module _ (C : Chart) (O : Ordered C) (places : ℕ) (lent : List ℕ) (R : Room 
       let r = Memᴰ·of-map (λ e. e / 2) (keep sort here-ends) (any-one i (halves (keep sort here-ends)) e) in
       subst (λ (z : ℕ). In z (map (λ e. e / 2) here-ends)) (r .2) (Memᴰ·map (λ e. e / 2) ((keep-out sort here-ends (r .1)) .0))
 
-  half-out : (i : ℕ) → In i (halves here-ends) → (any (eqb i) (halves (keep are-min here-ends)) ≡ true) ⊎ (any (eqb i) (halves (keep (λ e. not (are-min e)) here-ends)) ≡ true)
+  half-out : (i : ℕ) → In i (halves here-ends) → (any (eqb i) (halves (keep is-min here-ends)) ≡ true) ⊎ (any (eqb i) (halves (keep (λ e. not (is-min e)) here-ends)) ≡ true)
   unfolding halves
   half-out i m =
       let r = Memᴰ·of-map (λ e. e / 2) here-ends m in
       ⊎-elim
-      (λ (e : are-min (r .0) ≡ true). inl (any-eq i (subst (λ (z : ℕ). In z (halves (keep are-min here-ends))) (r .2) (Memᴰ·map (λ e. e / 2) (keep-in are-min (r .1) e)))))
-      (λ (e : are-min (r .0) ≡ false).
-      inr (any-eq i (subst (λ (z : ℕ). In z (halves (keep (λ e. not (are-min e)) here-ends))) (r .2) (Memᴰ·map (λ e. e / 2) (keep-in (λ e. not (are-min e)) (r .1) (ap not e))))))
-      (ask (are-min (r .0)))
+      (λ (e : is-min (r .0) ≡ true). inl (any-eq i (subst (λ (z : ℕ). In z (halves (keep is-min here-ends))) (r .2) (Memᴰ·map (λ e. e / 2) (keep-in is-min (r .1) e)))))
+      (λ (e : is-min (r .0) ≡ false).
+      inr (any-eq i (subst (λ (z : ℕ). In z (halves (keep (λ e. not (is-min e)) here-ends))) (r .2) (Memᴰ·map (λ e. e / 2) (keep-in (λ e. not (is-min e)) (r .1) (ap not e))))))
+      (ask (is-min (r .0)))
 
   abbrev parts : List ℕ
   parts = halves here-ends ++ (pieces here-crossings ++ holding)
@@ -128,15 +128,15 @@ module _ (C : Chart) (O : Ordered C) (places : ℕ) (lent : List ℕ) (R : Room 
       go : In i (halves here-ends) ⊎ (In i (pieces here-crossings) ⊎ In i holding) → Part i
       go (inl h) =
           ⊎-elim
-          (λ (e : any (eqb i) (halves (keep are-min here-ends)) ≡ true). inl (inl (sym (starting-any C O places lent R a s G p taken i (half-below i h)) ∙ e)))
-          (λ (e : any (eqb i) (halves (keep (λ e. not (are-min e)) here-ends)) ≡ true). inl (inr (sym (finishing-any C O places lent R a s G p taken i (half-below i h)) ∙ e)))
+          (λ (e : any (eqb i) (halves (keep is-min here-ends)) ≡ true). inl (inl (sym (starting-any C O places lent R a s G p taken i (half-below i h)) ∙ e)))
+          (λ (e : any (eqb i) (halves (keep (λ e. not (is-min e)) here-ends)) ≡ true). inl (inr (sym (finishing-any C O places lent R a s G p taken i (half-below i h)) ∙ e)))
           (half-out i h)
       go (inr (inl h)) = inr (inl (sym (turning-any C O places lent R a s G p taken i) ∙ any-eq i h))
       go (inr (inr h)) = let k = active-in i h in inr (inr (rw (any-eq i (k .0)) (k .1)))
 
   parts-in : (i : ℕ) → i < n → Part i → In i parts
-  parts-in i h (inl (inl e)) = Memᴰ·append-left _ (half-in are-min i (starting-any C O places lent R a s G p taken i h ∙ e))
-  parts-in i h (inl (inr e)) = Memᴰ·append-left _ (half-in (λ e. not (are-min e)) i (finishing-any C O places lent R a s G p taken i h ∙ e))
+  parts-in i h (inl (inl e)) = Memᴰ·append-left _ (half-in is-min i (starting-any C O places lent R a s G p taken i h ∙ e))
+  parts-in i h (inl (inr e)) = Memᴰ·append-left _ (half-in (λ e. not (is-min e)) i (finishing-any C O places lent R a s G p taken i h ∙ e))
   parts-in i h (inr (inl e)) =
       Memᴰ·append-right (halves here-ends) (Memᴰ·append-left _ (any-one i (pieces here-crossings) (turning-any C O places lent R a s G p taken i ∙ e)))
   parts-in i h (inr (inr e)) =

@@ -2,14 +2,14 @@
 use mathlib.Core.Bool.{Bool, cond, not, _&&_, _||_}
 use mathlib.Core.List.{List, [], _∷_, _++_, map}
 use mathlib.Core.Option.{Option, none, some}
-use Prim.Native.Nat.{ℕ, suc, _+_, _-_, _/_, _%_}
+use Prim.Native.Nat.{ℕ, suc, _+_, _-_, _/_}
 use lib.Dec.{eqb}
 use lib.ListN.{length, getD, set, take, replicate}
 use Rattle.charts.specs.Chart.{most}
 use Rattle.sweep.specs.Lists.{Pair, keep, pairs, adjacent}
 use Rattle.sweep.specs.Chart.{Chart}
 use Rattle.sweep.specs.Step.{each}
-use Rattle.ported_arrays.specs.Numbers.{pairOf, end-at, crossing-at}
+use Rattle.ported_arrays.specs.Numbers.{pairOf, is-min, end-at, crossing-at}
 use Rattle.ported_arrays.specs.Insertion.{insert-all, front, rest, join-all}
 use Rattle.ported_arrays.specs.Ledger.{Ledger, report, examine}
 
@@ -28,9 +28,6 @@ halves es = map (λ e. e / 2) es
 unfoldable pub pieces : List ℕ → List ℕ
 pieces [] = []
 pieces (c ∷ cs) = (pairOf c) .0 ∷ (pairOf c) .1 ∷ pieces cs
-
-unfoldable pub are-min : ℕ → Bool
-are-min e = eqb (e % 2) 0
 
 -- a waiting mark drops; a listed one stays
 unfoldable pub free : ℕ → List ℕ → List ℕ
@@ -63,10 +60,10 @@ module _ (C : Chart) where
     crossings-here = front (crossing-at C p) (s .ledger .waiting)
 
     unfoldable pub starting : List ℕ
-    starting = flag (halves (keep are-min ends-here)) (replicate most 0)
+    starting = flag (halves (keep is-min ends-here)) (replicate most 0)
 
     unfoldable pub finishing : List ℕ
-    finishing = flag (halves (keep (λ e. not (are-min e)) ends-here)) (replicate most 0)
+    finishing = flag (halves (keep (λ e. not (is-min e)) ends-here)) (replicate most 0)
 
     unfoldable pub turning : List ℕ
     turning = flag (pieces crossings-here) (replicate most 0)

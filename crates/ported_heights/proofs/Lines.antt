@@ -21,10 +21,9 @@ use Rattle.fractions.proofs.Ratios.{order-scaled}
 use Rattle.line_segment.specs.declared.LineSegment.{LineSegment}
 use Rattle.line_segment.specs.Geometry.{run, rise}
 use Rattle.line_segment.specs.Segment.{moment, over, cramerOf}
-use Rattle.charts.specs.Piece.{isUpright as is-upright}
-use Rattle.sweep.specs.Ported.{isLess, isEqual, isUpright, heightAbove, heightBelow, heightOrder, slopeOrder, rankOrder}
+use Rattle.charts.specs.Piece.{isUpright}
+use Rattle.sweep.specs.Ported.{isLess, heightAbove, heightBelow, heightOrder, slopeOrder, rankOrder}
 use Rattle.sweep_geometry.proofs.Heights.{order-diff}
-use Rattle.sweep_geometry.proofs.Accepted.{upright-same}
 use Rattle.ported_heights.specs.Heights.{lineOrder, levelAt}
 use Rattle.ported_heights.proofs.Answers.{is-less-than}
 
@@ -110,33 +109,33 @@ positive (suc n) f = omega arith
 
 -- of two pieces, by whether each is upright
 module _ (p : Point) (a b : LineSegment) where
-  pub both-upright : {y v : ℤ} → y ≡ a .min .y → v ≡ b .min .y → is-upright a ≡ true → is-upright b ≡ true → ratioOrder y 1 v 1 ≡ heightOrder p a b
+  pub both-upright : {y v : ℤ} → y ≡ a .min .y → v ≡ b .min .y → isUpright a ≡ true → isUpright b ≡ true → ratioOrder y 1 v 1 ≡ heightOrder p a b
   unfolding heightOrder heightAbove heightBelow ratioOrder
-  both-upright hy hv e f = rw (hy, hv, upright-same a ∙ e, upright-same b ∙ f)
+  both-upright hy hv e f = rw (hy, hv, e, f)
 
-  pub first-upright : {s : LineSegment} {y : ℤ} → s ≡ levelAt y → y ≡ a .min .y → is-upright a ≡ true → is-upright b ≡ false → lineOrder p s b ≡ heightOrder p a b
+  pub first-upright : {s : LineSegment} {y : ℤ} → s ≡ levelAt y → y ≡ a .min .y → isUpright a ≡ true → isUpright b ≡ false → lineOrder p s b ≡ heightOrder p a b
   unfolding heightOrder heightAbove heightBelow lineOrder levelAt run rise moment
   first-upright hs hy e f =
-      rw (hs, hy, upright-same a ∙ e, upright-same b ∙ f)
+      rw (hs, hy, e, f)
       (order-apart _ _ _ _ (level-first (a .min .y) (b .min .x) (b .min .y) (b .max .x) (b .max .y) (p .x) (pos (p .d))))
 
-  pub second-upright : {s : LineSegment} {y : ℤ} → s ≡ levelAt y → y ≡ b .min .y → is-upright a ≡ false → is-upright b ≡ true → lineOrder p a s ≡ heightOrder p a b
+  pub second-upright : {s : LineSegment} {y : ℤ} → s ≡ levelAt y → y ≡ b .min .y → isUpright a ≡ false → isUpright b ≡ true → lineOrder p a s ≡ heightOrder p a b
   unfolding heightOrder heightAbove heightBelow lineOrder levelAt run rise moment
   second-upright hs hy e f =
-      rw (hs, hy, upright-same a ∙ e, upright-same b ∙ f)
+      rw (hs, hy, e, f)
       (order-apart _ _ _ _ (level-second (b .min .y) (a .min .x) (a .min .y) (a .max .x) (a .max .y) (p .x) (pos (p .d))))
 
-  module _ (e : is-upright a ≡ false) (f : is-upright b ≡ false) where
+  module _ (e : isUpright a ≡ false) (f : isUpright b ≡ false) where
     pub over-zero : p .d ≡ 0 → Equal ≡ heightOrder p a b
     unfolding heightOrder heightBelow
     over-zero z =
-        rw (upright-same a ∙ e, upright-same b ∙ f)
+        rw (e, f)
         (sym (order-equal (over-none (heightAbove a p) (run b) (heightAbove b p) (run a) (p .d) z)))
 
     pub both-sloped : ¬ (p .d ≡ 0) → lineOrder p a b ≡ heightOrder p a b
     unfolding heightOrder heightAbove heightBelow lineOrder run rise moment
     both-sloped z =
-        rw (upright-same a ∙ e, upright-same b ∙ f)
+        rw (e, f)
         (order-scaled _ _ (pos (p .d)) (pos-< (positive (p .d) z))
         ∙ order-apart _ _ _ _ (two-lines (a .min .x) (a .min .y) (a .max .x) (a .max .y) (b .min .x) (b .min .y) (b .max .x) (b .max .y) (p .x) (pos (p .d))))
 

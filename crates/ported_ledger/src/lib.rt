@@ -75,5 +75,5 @@ pub fn wait_pair(
 {
     let c = cell_of(i, j);
     set_mark(marks, c, WAITING);
-    ported_queue::wait(table, waiting, head, c as u16)
+    ported_waiting::wait(table, waiting, head, c as u16)
 }

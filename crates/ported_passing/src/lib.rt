@@ -7,8 +7,8 @@ ghost use Prim.Native.Nat.{ℕ, _≤_};
 ghost use lib.ListN.{length, set};
 ghost use Rattle.ported_pieces.specs.Table.{chartIn};
 ghost use Rattle.sweep.specs.Lists.{keep};
-ghost use Rattle.ported_arrays.specs.Numbers.{end-at, crossing-at};
-ghost use Rattle.ported_arrays.specs.Event.{flag, halves, pieces, are-min, free, free-all};
+ghost use Rattle.ported_arrays.specs.Numbers.{is-min, end-at, crossing-at};
+ghost use Rattle.ported_arrays.specs.Event.{flag, halves, pieces, free, free-all};
 ghost use Rattle.ported_passing.specs.Passing.{standsAt, EndsPassed, CrossingsPassed};
 use charts::MOST;
 use fractions::Point;
@@ -53,7 +53,7 @@ fn free_mark(marks: &mut [u8], c: usize)
 
 // An end flagged by its piece: a min as starting, a max as finishing.
 fn flag_end(e: u16, starting: &mut [u8], finishing: &mut [u8])
-    ensures { λ _. ⌜ (now (starting .exit) ≡ flag (halves (keep are-min (e ∷ []))) (now (starting .entry))) × (now (finishing .exit) ≡ flag (halves (keep (λ f. not (are-min f)) (e ∷ []))) (now (finishing .entry))) ⌝ }
+    ensures { λ _. ⌜ (now (starting .exit) ≡ flag (halves (keep is-min (e ∷ []))) (now (starting .entry))) × (now (finishing .exit) ≡ flag (halves (keep (λ f. not (is-min f)) (e ∷ []))) (now (finishing .entry))) ⌝ }
 {
     let i = (e / 2) as usize;
     if e % 2 == 0 {

@@ -17,7 +17,7 @@ use Rattle.line_segment.specs.Piece.{pointOf, endOrder}
 use Rattle.line_segment.proofs.Ends.{end-order-is}
 use Rattle.sweep.specs.Chart.{same}
 use Rattle.sweep.specs.Ported.{isLess, isEqual}
-use Rattle.ported_arrays.specs.Numbers.{endOf, end-before, end-at}
+use Rattle.ported_arrays.specs.Numbers.{is-min, endOf, end-before, end-at}
 use Rattle.ported_pieces.specs.Table.{numberIn, pieceIn, chartIn}
 use Rattle.ported_heights.proofs.Answers.{is-less-than, neither-less}
 
@@ -35,7 +35,7 @@ module _ (n : ℕ) (table : List ℤ) where
   end e = wholeOf (numberIn table (place e)) (numberIn table (place e + 1))
 
   end-is : (e : ℕ) → end e ≡ endOf (chartIn n table) e
-  unfolding endOf pieceIn pointOf
+  unfolding endOf is-min pieceIn pointOf
   end-is e = go (eqb (e % 2) 0) refl
     where
       at : {i j k : ℕ} → i ≡ j → i + 1 ≡ k → _≡_ {A = Point} (wholeOf (numberIn table i) (numberIn table (i + 1))) (wholeOf (numberIn table j) (numberIn table k))

@@ -15,14 +15,18 @@ use Rattle.sweep.specs.Ported.{ported}
 abbrev pub numberIn : List ℤ → ℕ → ℤ
 numberIn table at = getD table at (pos 0)
 
--- marks as a kind has them: 1 where min is included, 2 where max is
+-- a piece from its five numbers, with marks as a kind has them: 1 where min is included, 2 where max is
+abbrev pub pieceOf : ℤ → ℤ → ℤ → ℤ → ℤ → LineSegment
+pieceOf x y x′ y′ kind =
+    let marks = natAbs kind in
+    record {
+      min = record { x = x; y = y; included = firstIncluded marks };
+      max = record { x = x′; y = y′; included = secondIncluded marks };
+    }
+
 unfoldable pub pieceIn : List ℤ → ℕ → LineSegment
 pieceIn table i =
-    let marks = natAbs (numberIn table (5 * i + 4)) in
-    record {
-      min = record { x = numberIn table (5 * i); y = numberIn table (5 * i + 1); included = firstIncluded marks };
-      max = record { x = numberIn table (5 * i + 2); y = numberIn table (5 * i + 3); included = secondIncluded marks };
-    }
+    pieceOf (numberIn table (5 * i)) (numberIn table (5 * i + 1)) (numberIn table (5 * i + 2)) (numberIn table (5 * i + 3)) (numberIn table (5 * i + 4))
 
 -- the first n pieces as a chart
 abbrev pub chartIn : ℕ → List ℤ → Chart

@@ -8,7 +8,7 @@ ghost use Rattle.line_segment.specs.Segment.{intersectOf, containsOf};
 ghost use Rattle.sweep.specs.Chart.{at};
 ghost use Rattle.sweep.specs.Ported.{isLess, isEqual, rankOrder};
 ghost use Rattle.ported_arrays.specs.Numbers.{pairOf, endOf, end-before, end-at, crossing-before, crossing-at};
-ghost use Rattle.ported_pieces.specs.Table.{numberIn, pieceIn, chartIn, roughAt};
+ghost use Rattle.ported_pieces.specs.Table.{numberIn, pieceOf, pieceIn, chartIn, roughAt};
 use charts::MOST;
 use fractions::Order;
 use fractions::Point;
@@ -25,22 +25,45 @@ fn number(table: &[i16], at: usize) -> i16
     if at < table.len() { table[at] } else { 0 }
 }
 
+// The piece of five numbers.
+fn of_numbers(x: i16, y: i16, x2: i16, y2: i16, kind: i16) -> LineSegment
+    ensures { λ r. ⌜ r ≡ pieceOf x y x2 y2 kind ⌝ }
+{
+    let marks = size(kind as i64);
+    let min = EndPoint {
+        x,
+        y,
+        included: marks % 2 == 1,
+    };
+    let max = EndPoint {
+        x: x2,
+        y: y2,
+        included: marks / 2 % 2 == 1,
+    };
+    LineSegment { min, max }
+}
+
 pub fn piece(table: &[i16], i: u16) -> LineSegment
     ensures { λ r. ⌜ r ≡ pieceIn (now (table .entry)) i ⌝ }
 {
     let at = 5 * i as usize;
-    let marks = size(number(table, at + 4) as i64);
-    let min = EndPoint {
-        x: number(table, at),
-        y: number(table, at + 1),
-        included: marks % 2 == 1,
-    };
-    let max = EndPoint {
-        x: number(table, at + 2),
-        y: number(table, at + 3),
-        included: marks / 2 % 2 == 1,
-    };
-    LineSegment { min, max }
+    if at + 4 < table.len() {
+        of_numbers(
+            table[at],
+            table[at + 1],
+            table[at + 2],
+            table[at + 3],
+            table[at + 4],
+        )
+    } else {
+        of_numbers(
+            number(table, at),
+            number(table, at + 1),
+            number(table, at + 2),
+            number(table, at + 3),
+            number(table, at + 4),
+        )
+    }
 }
 
 // Where the x of end e stands in the array; its y is next to it.
@@ -54,7 +77,7 @@ pub fn end_point(table: &[i16], e: u16) -> Point
     ensures { λ r. ⌜ ((n : ℕ) → r ≡ endOf (chartIn n (now (table .entry))) e) ⌝ }
 {
     let at = place_of(e);
-    fractions::whole(number(table, at), number(table, at + 1))
+    lowest_terms::whole(number(table, at), number(table, at + 1))
 }
 
 // End a stands before end b.
@@ -81,7 +104,7 @@ pub fn end_before(table: &[i16], a: u16, b: u16) -> bool
 pub fn less(p: Point, q: Point) -> bool
     ensures { λ r. ⌜ r ≡ isLess (pointOrder p q) ⌝ }
 {
-    match fractions::compare_points(p, q) {
+    match comparison::compare_points(p, q) {
         Order::Less => true,
         Order::Equal => false,
         Order::Greater => false,
@@ -91,7 +114,7 @@ pub fn less(p: Point, q: Point) -> bool
 pub fn same(p: Point, q: Point) -> bool
     ensures { λ r. ⌜ r ≡ isEqual (pointOrder p q) ⌝ }
 {
-    match fractions::compare_points(p, q) {
+    match comparison::compare_points(p, q) {
         Order::Less => false,
         Order::Equal => true,
         Order::Greater => false,

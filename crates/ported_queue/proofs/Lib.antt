@@ -1,2 +1,1 @@
-pub mod Ordering
 pub mod Nexts

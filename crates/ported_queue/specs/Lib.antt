@@ -1,3 +1,2 @@
--- What the queue's contracts cite beside `ported_arrays`.
-pub mod Places
+-- What the queue's contract cites beside `ported_arrays`.
 pub mod Next

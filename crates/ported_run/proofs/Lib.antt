@@ -3,5 +3,5 @@
 pub mod Agreeing
 mod Counting
 pub mod Running
-mod Tallying
+pub mod Tallying
 pub mod Beginning

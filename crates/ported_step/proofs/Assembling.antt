@@ -15,10 +15,10 @@ use Rattle.ported_pieces.specs.Table.{chartIn}
 use Rattle.sweep.specs.Lists.{keep, pairs, adjacent}
 use Rattle.sweep.specs.Chart.{Chart}
 use Rattle.sweep.specs.Step.{each}
-use Rattle.ported_arrays.specs.Numbers.{end-at, crossing-at}
+use Rattle.ported_arrays.specs.Numbers.{is-min, end-at, crossing-at}
 use Rattle.ported_arrays.specs.Insertion.{front, join-all}
 use Rattle.ported_arrays.specs.Ledger.{Ledger, report, examine}
-use Rattle.ported_arrays.specs.Event.{Sheet, flag, halves, pieces, are-min, free-all, starting, finishing, turning, dropped, stay, enter, ranged, examined, step}
+use Rattle.ported_arrays.specs.Event.{Sheet, flag, halves, pieces, free-all, starting, finishing, turning, dropped, stay, enter, ranged, examined, step}
 use Rattle.ported_arrays.specs.Event.{here as gathered}
 use Rattle.ported_passing.specs.Passing.{Passing}
 use Rattle.ported_active.specs.Roles.{staysBy, entersBy}
@@ -46,8 +46,8 @@ module _ (n : ℕ) (table : List ℤ) (p : Point) (ends active marks waiting byt
 
   module _ (e1 w1 : ℕ) (E : Passing (end-at (chartIn n table) p) ends passed e1) (W : Passing (crossing-at (chartIn n table) p) waiting head w1)
       (start finish turned freed hs : List ℕ)
-      (start-is : start ≡ flag (halves (keep are-min (slice passed e1 ends))) (replicate most 0))
-      (finish-is : finish ≡ flag (halves (keep (λ f. not (are-min f)) (slice passed e1 ends))) (replicate most 0))
+      (start-is : start ≡ flag (halves (keep is-min (slice passed e1 ends))) (replicate most 0))
+      (finish-is : finish ≡ flag (halves (keep (λ f. not (is-min f)) (slice passed e1 ends))) (replicate most 0))
       (turned-is : turned ≡ flag (pieces (slice head w1 waiting)) (replicate most 0))
       (freed-is : freed ≡ free-all (slice head w1 waiting) marks)
       (hs-are : hs ≡ join-all most (halves (slice passed e1 ends) ++ (pieces (slice head w1 waiting) ++ keep (containsIn table p) (take live active))) []) where
@@ -56,11 +56,11 @@ module _ (n : ℕ) (table : List ℤ) (p : Point) (ends active marks waiting byt
 
     starting-is : starting C entry p ≡ start
     unfolding starting
-    starting-is = sym (start-is ∙ ap (λ (l : List ℕ). flag (halves (keep are-min l)) (replicate most 0)) (E .passed))
+    starting-is = sym (start-is ∙ ap (λ (l : List ℕ). flag (halves (keep is-min l)) (replicate most 0)) (E .passed))
 
     finishing-is : finishing C entry p ≡ finish
     unfolding finishing
-    finishing-is = sym (finish-is ∙ ap (λ (l : List ℕ). flag (halves (keep (λ f. not (are-min f)) l)) (replicate most 0)) (E .passed))
+    finishing-is = sym (finish-is ∙ ap (λ (l : List ℕ). flag (halves (keep (λ f. not (is-min f)) l)) (replicate most 0)) (E .passed))
 
     turning-is : turning C entry p ≡ turned
     unfolding turning

@@ -5,7 +5,7 @@ ghost use lib.IntN.{pos};
 ghost use lib.ListN.{set};
 ghost use Rattle.charts.specs.Chart.{most};
 ghost use Rattle.ported_table.specs.Filled.{marksOf, written, filled};
-use charts::piece_at;
+use chart_pieces::piece_at;
 use line_segment::LineSegment;
 
 // Both marks as one number.

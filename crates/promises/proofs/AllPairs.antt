@@ -15,7 +15,7 @@ use Rattle.charts.proofs.Listing.{listing-goes, listing-refuses-exactly}
 use Rattle.naive.specs.Pairs.{bytes, over}
 use Rattle.naive.specs.AllPairs.{pairsOf, allPairsOf, lentAfter}
 use Rattle.naive.proofs.Exactly as all
-use Rattle.naive.proofs.all_pairs.Reads as all-pairs
+use Rattle.all_pairs.proofs.all_pairs.Reads as all-pairs
 use Rattle.sweep.specs.Lists.{Pair}
 use Rattle.promises.specs.Chart.{Accepts}
 use Rattle.promises.specs.AllPairs.{Allowed, listedIn, AllPairsPromises}

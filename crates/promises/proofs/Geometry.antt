@@ -25,8 +25,7 @@ use Rattle.line_segment.specs.Demand.{saysYes, saysOverlap, Meet, OnlyPoint}
 use Rattle.line_segment.proofs.Lying.{same-lies}
 use Rattle.line_segment.proofs.Promises.{says-yes-exactly, overlap-exactly, crossing-is-cramers}
 use Rattle.charts.specs.Chart.{verdictOf}
-use Rattle.charts.specs.Piece.{pieceAt, noUpright}
-use Rattle.charts.specs.Piece.{isUpright as upright}
+use Rattle.charts.specs.Piece.{pieceAt, isUpright, noUpright}
 use Rattle.charts.specs.declared.Verdict.the-variants.{Accepted}
 use Rattle.charts.proofs.Accepted.{pieces-have-length}
 use Rattle.charts.proofs.Rows.{is-true, is-false, says-eq}
@@ -38,7 +37,7 @@ use Rattle.sweep.specs.Chart.{Kind, nothing, crosses, overlaps, Chart, meets, k
 use Rattle.sweep.specs.Sought.{all, later, first-by, first, meeting}
 use Rattle.sweep.specs.Geometry.{Occurs}
 use Rattle.sweep.specs.Demand.{Pieces}
-use Rattle.sweep.specs.Ported.{isLess, isUpright, kindOf, ported}
+use Rattle.sweep.specs.Ported.{isLess, kindOf, ported}
 use Rattle.sweep.proofs.Lists.{keep-in, keep-out, pairwise-keep}
 use Rattle.sweep.proofs.Occurring.{all-in, all-out, all-once, min-occurs, max-occurs, at-occurs, occurs-out, End}
 use Rattle.sweep.proofs.Occurring.{Crossing as Crosses}
@@ -108,7 +107,7 @@ module _ (a b : LineSegment) (la : HasLength a) (lb : HasLength b) where
 
 -- ---- upright pieces
 pub none-upright : (list : List ℤ) (n : ℕ) → (noUpright list n ≡ true) ↔ NoneUpright list n
-unfolding upright
+unfolding isUpright
 none-upright list n = (
   λ e i h d. clash e (upright-found list i n h (is-true (says-eq _ _) d)),
   go n,

@@ -14,7 +14,8 @@ use Rattle.integers.proofs.Naturals.{natural}
 use Rattle.integers.proofs.Order.{+-mono-≤}
 use Rattle.integers.proofs.Sizes.{abs-+, abs-neg, abs-*}
 use Rattle.line_segment.specs.Geometry.{run}
-use Rattle.sweep.specs.Ported.{isUpright, heightAbove, heightBelow}
+use Rattle.charts.specs.Piece.{isUpright}
+use Rattle.sweep.specs.Ported.{heightAbove, heightBelow}
 use Rattle.sweep.proofs.Tests.{ask}
 use Rattle.promises.specs.Heights.{FitsHeight, HeightsBounded}
 

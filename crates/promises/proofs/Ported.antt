@@ -13,7 +13,6 @@ use Rattle.charts.specs.Answer.{listingOf}
 use Rattle.charts.specs.Chart.{verdictOf}
 use Rattle.charts.specs.Piece.{pieceAt}
 use Rattle.charts.specs.declared.Verdict.the-variants.{Accepted}
-use Rattle.charts.proofs.Listing.{listing-goes, listing-refuses-exactly}
 use Rattle.naive.specs.Pairs.{bytes, over}
 use Rattle.sweep.specs.Run.{answer-of, answer, visited}
 use Rattle.sweep.specs.Ported.{isLess, rankOrder, ported}
@@ -27,9 +26,9 @@ use Rattle.bentley_ottmann.proofs.Answering.{refused-outcome, done-outcome}
 use Rattle.bentley_ottmann.proofs.Answering.{none-upright as complete-is}
 use Rattle.bentley_ottmann.proofs.sweep.Reads as sweep
 use Rattle.promises.specs.Chart.{NoneUpright}
-use Rattle.promises.specs.Sweep.{Ported, FirstCommon, SweepPromises}
+use Rattle.promises.specs.Sweep.{Ported, SweepPromises}
 use Rattle.promises.proofs.Budgets.{steps-within, ended-or-spent}
-use Rattle.promises.proofs.Geometry.{none-upright, first-least}
+use Rattle.promises.proofs.Geometry.{none-upright}
 use Rattle.promises.proofs.Sweeping.{Runs, Sweeps, sweep-promises}
 
 abbrev order : List ℤ → Point → ℕ → ℕ → Bool
@@ -39,11 +38,6 @@ order list p i j = isLess (rankOrder (pieceAt list) p i j)
 pub allows-these : (κ : _) (a : _) (r : _) (s : _) → sweep.Post κ a r s
     → Ported (now (a .0)) (a .1 .0) (now (a .1 .1 .0)) r (now (s .1 .1 .0))
 allows-these κ a r s h = record { returned = h .0; left = h .1 }
-
-pub first-common : FirstCommon
-first-common list n lent c q h =
-    let e = listing-goes list (length lent) n (listing-refuses-exactly list (length lent) (Accepted n) .1 c) .0 in
-    (_, first-least (order list) list n e q h)
 
 module _ (list : List ℤ) (n : ℕ) (e : verdictOf list ≡ Accepted n) where
   runs : Runs (ported n (pieceAt list)) (answer (ported n (pieceAt list))) (visited (ported n (pieceAt list)))

@@ -1,6 +1,6 @@
 -- The promises of a sweep, from what is known of its run: what it answers at each budget, and the points that it visits.
 -- Assumes nothing.
-use mathlib.Core.Path.{_≡_, refl, sym, ap, _∙_}
+use mathlib.Core.Path.{_≡_, refl, sym, ap, _∙_, subst}
 use mathlib.Core.Logic.{_⊎_, _≢_, _↔_, inl, inr, ⊎-elim}
 use mathlib.Core.Bool.{Bool, true, false}
 use mathlib.Core.List.{List, [], _∷_, _++_}
@@ -42,7 +42,7 @@ use Rattle.ported_run.specs.Last.{asLast}
 use Rattle.bentley_ottmann.specs.Swept.{refusedWith}
 use Rattle.promises.specs.Chart.{Accepts, Before}
 use Rattle.promises.specs.Sweep as due
-use Rattle.promises.specs.Sweep.{Outcome, listedIn, Reached, SweepPromises}
+use Rattle.promises.specs.Sweep.{Outcome, listedIn, Reached, EndsWith, SweepPromises}
 use Rattle.promises.proofs.Refusing.{refusing, listing-decided}
 use Rattle.naive.proofs.Reading.{read-back}
 use Rattle.promises.proofs.AllPairs as pairs
@@ -88,6 +88,17 @@ reached-alike : (a b : LineSegment) (p q : Point) (l : Last) → LeastCommon a b
 reached-alike a b p q None h k r = r
 reached-alike a b p q (At l) h k r =
     λ e. r (orders-points .other-way p l ∙ ap turned (orders-points .alike p q l (h .common .positive) (k .common .positive) (least-alike a b p q h k)) ∙ sym (orders-points .other-way q l) ∙ e)
+
+-- the last of a list is what it ends with
+ends-with : (l : List Point) → EndsWith l (asLast (last-of l))
+unfolding last-of
+ends-with [] = refl
+ends-with (p ∷ []) = ([], refl)
+ends-with (p ∷ q ∷ l) = longer (last-of (q ∷ l)) (ends-with (q ∷ l))
+  where
+    longer : (o : Option Point) → EndsWith (q ∷ l) (asLast o) → EndsWith (p ∷ q ∷ l) (asLast o)
+    longer none e = absurd (omega (arith, ap length e))
+    longer (some z) e = (p ∷ e .0, ap (λ (t : List Point). p ∷ t) (e .1))
 
 taken-back : {A : Type 0} (m : ℕ) (l : List A) → take (length (take m l)) l ≡ take m l
 taken-back zero l = refl
@@ -176,7 +187,7 @@ module _ (Allowed : Outcome) (Whole : List ℤ → ℕ → Type 0)
           },
           record {
             steps = its-steps list n budget lent c o ∙ t .steps-visited budget;
-            last = its-last list n budget lent c o ∙ ap asLast (t .last-visited budget);
+            last = subst (EndsWith (visited list n budget)) (sym (its-last list n budget lent c o ∙ ap asLast (t .last-visited budget))) (ends-with (visited list n budget));
           },
         )
 
@@ -266,8 +277,9 @@ module _ (Allowed : Outcome) (Whole : List ℤ → ℕ → Type 0)
           },
           record {
             steps = steps;
-            last = its-last list n budget lent c o
-                ∙ ap asLast (R list n budget lent c .last-visited budget ∙ ap last-of (t .visits-first budget ∙ sym (taken-back budget seen) ∙ ap (λ (k : ℕ). take k seen) (length-take budget seen ∙ sym steps)));
+            last =
+                let passed = t .visits-first budget ∙ sym (taken-back budget seen) ∙ ap (λ (k : ℕ). take k seen) (length-take budget seen ∙ sym steps) in
+                subst (EndsWith (take (r .steps) seen)) (sym (its-last list n budget lent c o ∙ ap asLast (R list n budget lent c .last-visited budget ∙ ap last-of passed))) (ends-with (take (r .steps) seen));
             ended = rw (its-end list n budget lent c o) (t .ends-exactly budget);
           },
         )
@@ -286,6 +298,16 @@ module _ (Allowed : Outcome) (Whole : List ℤ → ℕ → Type 0)
             distinct-fit ((run list n budget) .listed) (meeting (C list n)) (R list n budget lent c .lists-once budget) (λ q. its-all q .0),
             distinct-fit (meeting (C list n)) ((run list n budget) .listed) (meeting-once (order list) list n a) (λ q. its-all q .1),
           )
+
+    lists-meetings : due.ListsMeetings Allowed Whole
+    lists-meetings list n budget lent r after c o w h =
+        let full = its-all list n budget lent r after c o w h in (
+          keeps-the-rest list n budget lent r after c o .0,
+          λ q. rw (its-list list n budget lent c o) (
+            λ m. (meeting-exactly (order list) list n (accepted list n budget lent c) q) .0 (full q .0 m),
+            λ m. full q .1 ((meeting-exactly (order list) list n (accepted list n budget lent c) q) .1 m),
+          ),
+        )
 
     lists-all-pairs : due.ListsAllPairs Allowed Whole
     lists-all-pairs list n budget lent r after c o w other a all d p h =
@@ -316,6 +338,7 @@ module _ (Allowed : Outcome) (Whole : List ℤ → ℕ → Type 0)
           lists-exactly = lists-exactly;
           lists-in-order = lists-in-order;
           visits-in-order = visits-in-order;
+          lists-meetings = lists-meetings;
           lists-all-pairs = lists-all-pairs;
           full-sweep-bounded = full-sweep-bounded;
           says-complete = says-complete;

@@ -4,7 +4,7 @@
 use mathlib.Core.Path.{_≡_}
 use mathlib.Core.Logic.{_⊎_, _≢_, _↔_}
 use mathlib.Core.Bool.{true}
-use mathlib.Core.List.{List, _++_}
+use mathlib.Core.List.{List, [], _∷_, _++_}
 use mathlib.Core.List.{List·Memᴰ as In}
 use Prim.Native.Nat.{ℕ, _+_, _*_, _≤_, min}
 use lib.IntN.{ℤ}
@@ -17,11 +17,10 @@ use Rattle.charts.specs.declared.Verdict.the-variants.{Refused}
 use Rattle.charts.specs.Demand.{ListingDue}
 use Rattle.charts.specs.PairList.{pairsIn}
 use Rattle.naive.specs.Pairs.{bytes, over}
-use Rattle.sweep.specs.Lists.{Pair, last-of, Pairwise}
+use Rattle.sweep.specs.Lists.{Pair, Pairwise}
 use Rattle.ported_run.specs.declared.Last.{Last}
 use Rattle.ported_run.specs.declared.Last.the-variants.{None, At}
 use Rattle.bentley_ottmann.specs.declared.Swept.{Swept}
-use Rattle.ported_run.specs.Last.{asLast}
 use Rattle.bentley_ottmann.specs.Swept.{sweepOf, lentAfter, refusedWith}
 use Rattle.promises.specs.Refusals.{RefusalPromises}
 use Rattle.promises.specs.Chart.{Accepts, FirstOf, Before, Meeting, SomePoints, AllPoints}
@@ -45,27 +44,22 @@ abbrev pub Reached : Last → Point → Type 0
 Reached None p = ⊥
 Reached (At l) p = ¬ (pointOrder l p ≡ Less)
 
--- .. of a pair's first common point
-abbrev pub FirstReached : List ℤ → Pair → Last → Type 0
-FirstReached list q last = (p : Point) × FirstOf list q p × Reached last p
+-- "the last point, or none after zero steps", of the points visited
+abbrev pub EndsWith : List Point → Last → Type 0
+EndsWith points None = points ≡ []
+EndsWith points (At p) = (front : List Point) × (points ≡ front ++ (p ∷ []))
 
 -- no step is invented: each visits a point beyond the one before
 pub record Forward (r : Swept) (points : List Point) : Type 0 where
   pub steps : r .steps ≡ length points
-  pub last : r .last ≡ asLast (last-of points)
+  pub last : EndsWith points (r .last)
 
 -- "steps done (the lesser of budget and steps to the empty queue), whether the queue is empty, .. and the last point, or
 -- none after zero steps"
 pub record Visits (budget : ℕ) (r : Swept) (points : List Point) : Type 0 where
   pub steps : r .steps ≡ min budget (length points)
-  pub last : r .last ≡ asLast (last-of (take (r .steps) points))
+  pub last : EndsWith (take (r .steps) points) (r .last)
   pub ended : (r .ended ≡ true) ↔ (length points ≤ budget)
-
--- "First common point of a pair that meets": there is one
-abbrev pub FirstCommon : Type 0
-FirstCommon =
-    (list : List ℤ) (n : ℕ) (lent : List ℕ) → Accepts list lent n
-    → (q : Pair) → Meeting list n q → (p : Point) × FirstOf list q p
 
 abbrev pub Promise : Type 1
 Promise = (list : List ℤ) (n budget : ℕ) (lent : List ℕ) (r : Swept) (after : List ℕ) → Type 0
@@ -139,7 +133,7 @@ module _ (Allowed : Outcome) (Whole : List ℤ → ℕ → Type 0) where
   abbrev pub ListsExactly : Type 0
   ListsExactly =
       OnWholeCharts (λ list n budget lent r after.
-      (q : Pair) → In q (listedIn r after) ↔ (Meeting list n q × FirstReached list q (r .last)))
+      (q : Pair) → In q (listedIn r after) ↔ (Meeting list n q × ((p : Point) × FirstOf list q p × Reached (r .last) p)))
 
   -- "by first common point, then lesser number, then greater"
   abbrev pub ListsInOrder : Type 0
@@ -150,7 +144,13 @@ module _ (Allowed : Outcome) (Whole : List ℤ → ℕ → Type 0) where
   VisitsInOrder =
       OnWholeCharts (λ list n budget lent r after. (points : List Point) × AllPoints list n points × Visits budget r points)
 
-  -- "the full list has the same pairs as the all-pairs list"
+  -- the full list has the pairs that meet and no other, and as many as are counted
+  abbrev pub ListsMeetings : Type 0
+  ListsMeetings =
+      OnWholeCharts (λ list n budget lent r after.
+      r .ended ≡ true → (r .pairs ≡ length (listedIn r after)) × ((q : Pair) → In q (listedIn r after) ↔ Meeting list n q))
+
+  -- .. so "the full list has the same pairs as the all-pairs list"
   abbrev pub ListsAllPairs : Type 0
   ListsAllPairs =
       OnWholeCharts (BesideAllPairs Allowed (λ list n budget r after a all. r .ended ≡ true
@@ -177,6 +177,7 @@ module _ (Allowed : Outcome) (Whole : List ℤ → ℕ → Type 0) where
     pub lists-exactly : ListsExactly
     pub lists-in-order : ListsInOrder
     pub visits-in-order : VisitsInOrder
+    pub lists-meetings : ListsMeetings
     pub lists-all-pairs : ListsAllPairs
     pub full-sweep-bounded : FullSweepBounded
     pub says-complete : SaysComplete

@@ -16,14 +16,14 @@ fn answer(asked: u8, file: &[u8], list: &[i32]) {
         b'a' => pairs::write(list),
         b's' => stops::write(list, false),
         b'f' => stops::write(list, true),
-        b'l' => listing_parts::print(file),
+        b'l' => print_parts::print(file),
         _ => text::words(b"asked nothing\n"),
     }
 }
 
 fn replay(asked: u8, file: &[u8]) {
     let mut list = [0i32; chart_file::NUMBERS];
-    let read = chart_file::read(file, &mut list);
+    let read = file_reader::read(file, &mut list);
     if read.number == 0 {
         let end = 5 * read.count;
         answer(asked, file, &list[..end]);

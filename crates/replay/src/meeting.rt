@@ -1,10 +1,11 @@
 // How the two pieces of a chart meet, and where they cross.
 use crate::text;
+use chart_pieces::piece_at;
 use line_segment::EndPoint;
 use line_segment::Meeting;
 
 fn write_end(e: EndPoint) {
-    let p = fractions::whole(e.x, e.y);
+    let p = lowest_terms::whole(e.x, e.y);
     text::signed(b" ", p.x);
     text::signed(b" ", p.y);
     if e.included {
@@ -15,7 +16,7 @@ fn write_end(e: EndPoint) {
 }
 
 fn write_crossing(list: &[i32]) {
-    let p = segment_crossing::crossing(charts::piece_at(list, 0), charts::piece_at(list, 1));
+    let p = segment_crossing::crossing(piece_at(list, 0), piece_at(list, 1));
     text::point(b"crossing ", p);
     text::words(b"\n");
 }
@@ -38,7 +39,7 @@ fn write_meeting(list: &[i32], meeting: Meeting) {
 }
 
 pub fn write(list: &[i32]) {
-    let answer = charts::meeting_of(list);
+    let answer = chart_verdict::meeting_of(list);
     if answer.number == 0 {
         let meeting = answer.meeting;
         write_meeting(list, meeting);

@@ -4,7 +4,7 @@ use charts::MOST;
 
 pub fn write(list: &[i32]) {
     let mut bytes = [0u8; MOST * (MOST - 1)];
-    let answer = naive::all_pairs(list, &mut bytes);
+    let answer = all_pairs::all_pairs(list, &mut bytes);
     if answer.number == 0 {
         text::number(b"", answer.count as u64);
         text::pairs(&bytes, answer.count);

@@ -27,7 +27,7 @@ fn write_place(meeting: Place) {
 }
 
 pub fn write(list: &[i32]) {
-    let answer = place::pair_place(list);
+    let answer = nearest_place::pair_place(list);
     if answer.number == 0 {
         let meeting = answer.meeting;
         write_place(meeting);

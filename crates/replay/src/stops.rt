@@ -8,6 +8,7 @@ use ported_run::Last;
 fn write_stop(swept: Swept) {
     text::number(b"", swept.steps as u64);
     text::number(b" listed ", swept.pairs as u64);
+    text::number(b" examined ", swept.examined);
     text::yes_or_no(b" ended ", swept.ended);
     let last = swept.last;
     match last {

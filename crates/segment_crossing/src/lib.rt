@@ -88,5 +88,5 @@ pub fn crossing(a: LineSegment, b: LineSegment) -> Point
     ensures { λ r. ⌜ r ≡ crossingOf a b ⌝ }
 {
     let p = cramer(a, b);
-    fractions::lowest(p.x, p.y, p.d)
+    lowest_terms::lowest(p.x, p.y, p.d)
 }

@@ -109,7 +109,7 @@ fn share(p: i64, q: i64, under: u64) -> Fraction
 fn same_product(p: i64, q: i64, u: i64, v: i64) -> bool
     ensures { λ r. ⌜ r ≡ isStraight (turnOf (p *ℤ q -ℤ u *ℤ v)) ⌝ }
 {
-    match fractions::compare(share(p, q, size(v)), share(u, v, size(q))) {
+    match comparison::compare(share(p, q, size(v)), share(u, v, size(q))) {
         Order::Less => false,
         Order::Equal => true,
         Order::Greater => false,

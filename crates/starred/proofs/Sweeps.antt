@@ -11,9 +11,9 @@ use Rattle.orientation.specs.Turn.{det, turnOf}
 use Rattle.line_segment.specs.Piece.{pointOf, endOrder, firstIncluded, secondIncluded, joinBy, joinOf, pieceOf}
 use Rattle.line_segment.specs.Geometry.{run, rise, side}
 use Rattle.line_segment.specs.Segment.{leftBy, leftmostOf, rightBy, rightmostOf, within, innerBetween, stretchBy, stretchOf, touchOf, turnTo, opposed, astrideOf, intersectOf, inBounds, containsOf, moment, over, cramerOf, crossingOf}
-use Rattle.charts.specs.Fault.{outside}
+use Rattle.charts.specs.Fault.{outside, eqZ}
 use Rattle.charts.specs.Chart.{numberAt}
-use Rattle.charts.specs.Piece.{kindOf, coordinateOf, pieceAt}
+use Rattle.charts.specs.Piece.{kindOf, coordinateOf, pieceAt, isUpright}
 use Rattle.sweep.specs.Lists.{upto, keep, any, place, sort-into, sort, same-pair, among, pairs, lesser-first, adjacent-from, adjacent}
 use Rattle.sweep.specs.Chart.{meets, same}
 use Rattle.sweep.specs.State.{start}
@@ -21,7 +21,7 @@ use Rattle.sweep.specs.Queue.{ends, beyond, queue, least-from, least, next}
 use Rattle.sweep.specs.Step.{list, each, starts, finishes, turns, takes-part, pieces, report, drop, reported, wait, examine-free, examine, stay, enter, ranged, examined, step}
 use Rattle.sweep.specs.Run.{move-to, move, onwards, taken, visited, is-none, answer-of, answer}
 use Rattle.sweep.specs.Run.{run as run-of}
-use Rattle.sweep.specs.Ported.{isUpright, heightAbove, heightBelow, heightOrder, slopeOrder, rankOrder, ported}
+use Rattle.sweep.specs.Ported.{heightAbove, heightBelow, heightOrder, slopeOrder, rankOrder, ported}
 use Rattle.examinations.specs.Examined.{examinedAt, examinedOn, examinedIn}
 use Rattle.examinations.specs.Examined.{examined as counted}
 use Rattle.starred.specs.Written.{at}
@@ -41,5 +41,5 @@ pub record Sweeps : Type 0 where
   pub gap-examined : counted (ported 3 (pieceAt gap)) 9 ≡ 8
 
 pub sweeps : Sweeps
-unfolding order ratioOrder euclid gcdOf pointOrder common lowestOf det turnOf pointOf endOrder firstIncluded secondIncluded joinBy joinOf pieceOf run rise side leftBy leftmostOf rightBy rightmostOf within innerBetween stretchBy stretchOf touchOf turnTo opposed astrideOf intersectOf inBounds containsOf moment over cramerOf crossingOf outside numberAt kindOf coordinateOf pieceAt upto keep any place sort-into sort same-pair among pairs lesser-first adjacent-from adjacent meets same start ends beyond queue least-from least next list each starts finishes turns takes-part pieces report drop reported wait examine-free examine stay enter ranged examined step move-to move onwards taken visited is-none answer-of answer run-of isUpright heightAbove heightBelow heightOrder slopeOrder rankOrder examinedAt examinedOn examinedIn counted
+unfolding order ratioOrder euclid gcdOf pointOrder common lowestOf det turnOf pointOf endOrder firstIncluded secondIncluded joinBy joinOf pieceOf run rise side leftBy leftmostOf rightBy rightmostOf within innerBetween stretchBy stretchOf touchOf turnTo opposed astrideOf intersectOf inBounds containsOf moment over cramerOf crossingOf outside numberAt kindOf coordinateOf pieceAt upto keep any place sort-into sort same-pair among pairs lesser-first adjacent-from adjacent meets same start ends beyond queue least-from least next list each starts finishes turns takes-part pieces report drop reported wait examine-free examine stay enter ranged examined step move-to move onwards taken visited is-none answer-of answer run-of isUpright eqZ heightAbove heightBelow heightOrder slopeOrder rankOrder examinedAt examinedOn examinedIn counted
 sweeps = record { cross-points = refl; cross-two = refl; cross-three = refl; gap-nine = refl; cross-examined = (refl, refl); gap-examined = refl }

@@ -2,16 +2,17 @@
 use mathlib.Core.Path.{_≡_}
 use mathlib.Core.Bool.{Bool, false, not, _&&_}
 use mathlib.Core.List.{List}
-use Prim.Native.Nat.{ℕ, _+_, _*_, _/_, _<_}
+use Prim.Native.Nat.{ℕ, _*_, _/_, _<_}
 use lib.ListN.{length, getD}
 use Rattle.charts.specs.Chart.{most}
+use Rattle.charts.specs.PairList.{cell}
 use Rattle.supplied.specs.declared.First.{First}
 use Rattle.supplied.specs.declared.First.the-variants.{None}
 use Rattle.supplied.specs.Entries.{named, faults, firstOf}
 
 -- the mark of a pair
 abbrev pub markOf : List Bool → ℕ → ℕ → Bool
-markOf marks a b = getD marks (a * most + b) false
+markOf marks a b = getD marks (cell (a, b)) false
 
 -- the marked pairs are those that the first i entries name
 pub record Marked (marks : List Bool) (bytes : List ℕ) (i : ℕ) : Type 0 where

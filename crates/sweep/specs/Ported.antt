@@ -13,6 +13,7 @@ use Rattle.line_segment.specs.declared.Meeting.the-variants.{Nothing, Crossing,
 use Rattle.line_segment.specs.Piece.{pointOf}
 use Rattle.line_segment.specs.Geometry.{run, rise}
 use Rattle.line_segment.specs.Segment.{intersectOf, containsOf, crossingOf}
+use Rattle.charts.specs.Piece.{isUpright}
 use Rattle.sweep.specs.Chart.{Kind, nothing, crosses, overlaps, Chart}
 
 abbrev pub isLess : Order → Bool
@@ -29,10 +30,6 @@ abbrev pub isEqual : Order → Bool
 isEqual Less = false
 isEqual Equal = true
 isEqual Greater = false
-
--- "A piece is upright when both x are equal."
-unfoldable pub isUpright : LineSegment → Bool
-isUpright s = isEqual (order (s .min .x) (s .max .x))
 
 -- a piece's height at p's x, above and below the line of the fraction.
 -- "An upright piece has the smaller y as its height": that of its min

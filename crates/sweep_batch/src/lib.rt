@@ -1,20 +1,8 @@
 // Several charts in one call: their lists stand end to end, and each is swept as it would be alone.
-ghost use mathlib.Core.Path.{_≡_};
-ghost use lib.ListN.{length};
-ghost use Rattle.batch.specs.Numbers.{numbersOf};
-ghost use Rattle.batch.specs.Single.{sweptAlone, leftAlone};
 ghost use Rattle.batch.specs.Batch.{Roomy, Writes, Batches};
+use batch_chart::sweep_chart;
 use batch_refusals::NUMBERS;
 use charts::Answer;
-
-// One chart, with the largest budget.
-fn sweep_chart(list: &[i32], pairs: &mut [u8], result: &mut [u64])
-    requires { ⌜ length (now result) ≡ 10 ⌝ }
-    ensures { λ _. ⌜ (now (pairs .exit) ≡ leftAlone (now (list .entry)) (now (pairs .entry))) × (now (result .exit) ≡ numbersOf (sweptAlone (now (list .entry)) (now (pairs .entry)))) ⌝ }
-{
-    let swept = full_sweep::sweep(list, 4294967295, pairs);
-    batch_result::put_result(swept, result);
-}
 
 // Every chart, each with its own stretch of the list, of the bytes and of the results.
 fn sweep_charts(list: &[i32], lengths: &[usize], pairs: &mut [u8], results: &mut [u64])
@@ -47,8 +35,8 @@ pub fn sweep_batch(list: &[i32], lengths: &[usize], pairs: &mut [u8], results: &
 {
     let number = batch_refusals::refusal_of(list.len(), lengths, pairs.len(), results.len());
     if number != 0 {
-        return charts::refused(number, 0);
+        return chart_verdict::refused(number, 0);
     }
     sweep_charts(list, lengths, pairs, results);
-    charts::done(lengths.len())
+    chart_verdict::done(lengths.len())
 }

@@ -8,32 +8,29 @@ use Prim.Native.Nat.{ℕ, _<_}
 use native.Mathlib.Omega.{arith}
 use lib.IntN.{ℤ, negℤ}
 use Rattle.integers.specs.Size.{Small}
-use Rattle.integers.proofs.Order.{≮→≥, <→≢}
+use Rattle.integers.proofs.Order.{≮→≥}
 use Rattle.integers.proofs.Sizes.{small-of}
 use Rattle.fractions.specs.declared.Order.{Order}
 use Rattle.fractions.specs.declared.Order.the-variants.{Less, Equal, Greater}
 use Rattle.fractions.specs.declared.Point.{Point}
-use Rattle.fractions.proofs.Orders.{Answer, is-less, is-equal, is-greater, answer}
 use Rattle.line_segment.specs.declared.EndPoint.{EndPoint}
-use Rattle.line_segment.specs.declared.LineSegment.{LineSegment}
 use Rattle.line_segment.specs.Piece.{joinBy, joinOf, pieceOf}
 use Rattle.line_segment.specs.declared.Meeting.{Meeting}
 use Rattle.line_segment.specs.declared.Meeting.the-variants.{Nothing, Crossing, Overlap}
 use Rattle.line_segment.specs.Segment.{intersectOf}
 use Rattle.line_segment.specs.Demand.{saysYes, Meet, OnChart}
 use Rattle.line_segment.proofs.Promises.{says-yes-exactly}
-use Rattle.charts.specs.Fault.{range, outside, eqZ}
+use Rattle.charts.specs.Fault.{range, outside}
 use Rattle.charts.specs.Chart.{verdictOf}
-use Rattle.charts.specs.Piece.{coordinateOf, pieceAt, noUpright}
-use Rattle.charts.specs.Piece.{isUpright as upright}
+use Rattle.charts.specs.Piece.{coordinateOf, pieceAt, isUpright, noUpright}
 use Rattle.charts.specs.declared.Verdict.the-variants.{Accepted}
-use Rattle.charts.proofs.Rows.{is-true, is-false, says-outside, says-eq}
+use Rattle.charts.proofs.Rows.{says-outside}
 use Rattle.charts.proofs.Accepted.{pieces-have-length}
 use Rattle.charts.proofs.Upright.{upright-found}
 use Rattle.sweep.specs.Chart.{Chart, meets, kind}
 use Rattle.sweep.specs.Sought.{all, meeting}
 use Rattle.sweep.specs.Demand.{Run, ListsAll, ported-run, reordered}
-use Rattle.sweep.specs.Ported.{isEqual, isUpright, kindOf, ported}
+use Rattle.sweep.specs.Ported.{kindOf, ported}
 use Rattle.sweep.proofs.Lists.{keep-in, keep-out}
 use Rattle.sweep.proofs.Occurring.{all-in, all-out}
 use Rattle.sweep.proofs.Tests.{ask, clash}
@@ -62,23 +59,10 @@ piece-on list i = join-on _ _ _ (small _) (small _) (small _) (small _)
 pub list-proper : (list : List ℤ) (n : ℕ) → verdictOf list ≡ Accepted n → AllProper n (pieceAt list)
 list-proper list n e i h = record { length = pieces-have-length list n i e h; charted = piece-on list i }
 
--- the two tests for an upright piece
-pub upright-same : (s : LineSegment) → isUpright s ≡ upright s
-unfolding isUpright upright
-upright-same s = go (answer (s .min .x) (s .max .x))
-  where
-    no : (a b : ℤ) → ¬ (a ≡ b) → false ≡ eqZ a b
-    no a b d = sym (is-false (says-eq a b) d)
-
-    go : {o : Order} → Answer (s .min .x) (s .max .x) o → isEqual o ≡ eqZ (s .min .x) (s .max .x)
-    go (is-less h) = no (s .min .x) (s .max .x) (<→≢ h)
-    go (is-equal h) = sym (is-true (says-eq (s .min .x) (s .max .x)) h)
-    go (is-greater h) = no (s .min .x) (s .max .x) (λ e. <→≢ h (sym e))
-
 pub list-flat : (list : List ℤ) (n : ℕ) → noUpright list n ≡ true → NoneUpright n (pieceAt list)
 list-flat list n e i h =
     ⊎-elim
-    (λ (t : isUpright (pieceAt list i) ≡ true). clash e (upright-found list i n h (sym (upright-same (pieceAt list i)) ∙ t)))
+    (λ (t : isUpright (pieceAt list i) ≡ true). clash e (upright-found list i n h t))
     (λ (t : isUpright (pieceAt list i) ≡ false). t)
     (ask (isUpright (pieceAt list i)))
 

@@ -8,8 +8,9 @@ use Rattle.fractions.specs.Order.{order}
 use Rattle.fractions.specs.declared.Point.{Point}
 use Rattle.line_segment.specs.declared.LineSegment.{LineSegment}
 use Rattle.line_segment.proofs.Along.{Leads, leads}
+use Rattle.charts.specs.Piece.{isUpright}
 use Rattle.sweep.specs.Geometry.{Geometry}
-use Rattle.sweep.specs.Ported.{isLess, isUpright, heightAbove, heightBelow, heightOrder, rankOrder, ported}
+use Rattle.sweep.specs.Ported.{isLess, heightAbove, heightBelow, heightOrder, rankOrder, ported}
 use Rattle.sweep.proofs.Promises.{promises}
 use Rattle.sweep.proofs.Always.{always}
 use Rattle.sweep_geometry.specs.Full.{fullAbove, fullBelow, fullHeightOrder, fullOrder, full}

@@ -1,11 +1,12 @@
 -- The order of slopes, in which an upright piece is the steepest.
-use mathlib.Core.Path.{_≡_, refl, sym, ap, _∙_}
+use mathlib.Core.Path.{_≡_, refl, sym, _∙_}
 use mathlib.Core.Bool.{true, false}
 use mathlib.Core.List.{[], _∷_}
 use native.Mathlib.Omega.{arith}
 use lib.IntN.{ℤ, pos, _-ℤ_, _*ℤ_}
 use lib.Signed.{_<ℤ_}
 use Rattle.integers.proofs.Identity.{by-ring, terms}
+use Rattle.integers.proofs.Order.{<→≢}
 use Rattle.integers.proofs.Signs.{diff-<, p*p}
 use Rattle.fractions.specs.Order.{order, turned}
 use Rattle.fractions.specs.declared.Order.{Order}
@@ -14,16 +15,18 @@ use Rattle.fractions.proofs.Orders.{order-less, order-equal, order-greater, ord
 use Rattle.line_segment.specs.declared.LineSegment.{LineSegment}
 use Rattle.line_segment.specs.Geometry.{run, rise}
 use Rattle.line_segment.proofs.Along.{Leads, rightward, upward}
-use Rattle.sweep.specs.Ported.{isEqual, isUpright, slopeOrder}
+use Rattle.charts.specs.Piece.{isUpright}
+use Rattle.charts.proofs.Rows.{is-true, is-false, says-eq}
+use Rattle.sweep.specs.Ported.{slopeOrder}
 use Rattle.sweep_geometry.proofs.Comparisons.{Orders, fraction-orders, never}
 
 pub sloped-not : (s : LineSegment) → pos 0 <ℤ run s → isUpright s ≡ false
 unfolding isUpright run
-sloped-not s h = ap isEqual (order-less (diff-< h))
+sloped-not s h = is-false (says-eq (s .min .x) (s .max .x)) (<→≢ (diff-< h))
 
 pub standing-is : (s : LineSegment) → run s ≡ pos 0 → isUpright s ≡ true
 unfolding isUpright run
-standing-is s e = ap isEqual (order-equal (alike (s .min .x) (s .max .x) e))
+standing-is s e = is-true (says-eq (s .min .x) (s .max .x)) (alike (s .min .x) (s .max .x) e)
   where
     alike : (a b : ℤ) → b -ℤ a ≡ pos 0 → a ≡ b
     alike a b e = by-ring (a ∷ b ∷ []) {a = a} {b = b -ℤ (b -ℤ a)} (search terms depth 60 fits 20000) tt ∙ rw e (by-ring (b ∷ []) (search terms depth 60 fits 20000) tt)

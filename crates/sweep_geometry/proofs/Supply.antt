@@ -24,8 +24,9 @@ use Rattle.line_segment.proofs.Promises.{says-yes-exactly, overlap-exactly, sam
 use Rattle.line_segment.proofs.Lying.{whole, forward, closed-of, closed-line, closed-from, closed-upto, lies-closed, lies-inside}
 use Rattle.line_segment.proofs.Sides.{min-on, max-on}
 use Rattle.line_segment.proofs.CramersPoint.{crossing-stays-bounded}
+use Rattle.charts.specs.Piece.{isUpright}
 use Rattle.sweep.specs.Chart.{crosses, overlaps, Chart}
-use Rattle.sweep.specs.Ported.{isLess, kindOf, isUpright}
+use Rattle.sweep.specs.Ported.{isLess, kindOf}
 use Rattle.sweep.specs.Sought.{later}
 use Rattle.sweep.specs.Geometry.{Occurs, Under, CrossBetween, PointsOrdered, Geometry}
 use Rattle.sweep.proofs.Tests.{ask}

@@ -14,14 +14,14 @@ use Rattle.line_segment.specs.Piece.{HasLength, closed}
 use Rattle.line_segment.specs.Geometry.{Common}
 use Rattle.line_segment.specs.Demand.{Meet, OnChart}
 use Rattle.charts.specs.Chart.{verdictOf}
-use Rattle.charts.specs.Piece.{pieceAt, noUpright}
+use Rattle.charts.specs.Piece.{pieceAt, isUpright, noUpright}
 use Rattle.charts.specs.declared.Verdict.the-variants.{Accepted}
 use Rattle.sweep.specs.Lists.{Pair}
 use Rattle.sweep.specs.Chart.{meets, kind}
 use Rattle.sweep.specs.Run.{answer}
 use Rattle.sweep.specs.Sought.{first}
 use Rattle.sweep.specs.Demand.{Pieces, Promises, AlwaysPromises}
-use Rattle.sweep.specs.Ported.{isUpright, ported}
+use Rattle.sweep.specs.Ported.{ported}
 use Rattle.sweep_geometry.specs.Full.{full}
 
 -- a piece of some length, with coordinates of a chart
@@ -65,7 +65,11 @@ pub record LeastCommon (a b : LineSegment) (p : Point) : Type 0 where
   pub common : Common (closed a) (closed b) p
   pub least : (q : Point) → Common (closed a) (closed b) q → ¬ (pointOrder p q ≡ Greater)
 
--- "First common point of a pair that meets": what the sweep's definitions take for it is that
+-- "First common point of a pair that meets": there is one, whatever the two pieces
+abbrev pub FirstCommon : Type 0
+FirstCommon = (a b : LineSegment) → Meet a b → (p : Point) × LeastCommon a b p
+
+-- .. and what the sweep's definitions take for it is that
 abbrev pub FirstIsLeast : Type 0
 FirstIsLeast =
     (n : ℕ) (piece : ℕ → LineSegment) → AllProper n piece → (q : Pair) → Pieces (ported n piece) q

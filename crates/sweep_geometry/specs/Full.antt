@@ -10,8 +10,9 @@ use Rattle.fractions.specs.declared.Point.{Point}
 use Rattle.line_segment.specs.declared.LineSegment.{LineSegment}
 use Rattle.line_segment.specs.Piece.{pointOf}
 use Rattle.line_segment.specs.Segment.{intersectOf, containsOf, crossingOf}
+use Rattle.charts.specs.Piece.{isUpright}
 use Rattle.sweep.specs.Chart.{Chart}
-use Rattle.sweep.specs.Ported.{isLess, kindOf, isUpright, heightAbove, heightBelow, slopeOrder}
+use Rattle.sweep.specs.Ported.{isLess, kindOf, heightAbove, heightBelow, slopeOrder}
 
 unfoldable pub fullAbove : LineSegment → Point → ℤ
 fullAbove s p = cond (isUpright s) (p .y) (heightAbove s p)

@@ -5,4 +5,5 @@
 pub mod Division
 pub mod Sides
 pub mod Signed
+pub mod Once
 mod Examples

@@ -13,7 +13,7 @@ here = Path(__file__).resolve().parent
 root = here.parents[2]
 work = root / "target/wrong"
 layout = work / "layout"
-charts_of_each_temper = "100"
+charts_of_each_temper, large_ones = "100", "10"
 
 
 def fields(path):
@@ -29,7 +29,7 @@ def build():
 
 
 def compare():
-    program = [work / "release/compare", "long", "1", charts_of_each_temper]
+    program = [work / "release/compare", "long", "1", charts_of_each_temper, large_ones]
     return subprocess.run(program, capture_output=True, text=True)
 
 

@@ -12,7 +12,7 @@ use Rattle.ported_ledger.proofs.wait_pair.Reads as reads
 use Rattle.ported_ledger.proofs.wait_pair.Lts as lts
 use Rattle.ported_ledger.proofs.cell_of.Reads as cell-of-reads
 use Rattle.ported_ledger.proofs.set_mark.Reads as set-mark-reads
-use Rattle.ported_queue.proofs.wait.Reads as wait-reads
+use Rattle.ported_waiting.proofs.wait.Reads as wait-reads
 
 cell-of-requires : tie.Need-cell-of-requires
 cell-of-requires c κs = search needs

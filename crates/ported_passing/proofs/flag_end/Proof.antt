@@ -3,7 +3,8 @@ use Prim.Native.Nat.{_%_}
 use mathlib.Core.Path.{_≡_, refl, sym, ap, _∙_}
 use borrow.Author.Tests.{eq-eqb, ne-eqb}
 use Rattle.sweep.specs.Lists.{keep}
-use Rattle.ported_arrays.specs.Event.{flag, halves, are-min}
+use Rattle.ported_arrays.specs.Numbers.{is-min}
+use Rattle.ported_arrays.specs.Event.{flag, halves}
 use borrow.Author.Needs.{needs}
 use Rattle.ported_passing.proofs.flag_end.Statement.{statement}
 use Rattle.ported_passing.proofs.flag_end.Tie as tie
@@ -24,14 +25,14 @@ same-length : tie.Need-same-length
 same-length c = search needs
 
 returns : tie.Need-returns
-unfolding flag halves keep are-min
+unfolding flag halves keep is-min
 returns c = rw (eq-eqb (c .before .before .before .before .before .before .before .args .e % 2) 0 (c .before .before .before .before .if1 .taken)) (c .before .before .set-flag .ensures, refl)
 
 same-length-2 : tie.Need-same-length-2
 same-length-2 c = search needs
 
 returns-2 : tie.Need-returns-2
-unfolding flag halves keep are-min
+unfolding flag halves keep is-min
 returns-2 c = rw (ne-eqb (c .before .before .before .before .before .before .before .args .e % 2) 0 (c .before .before .before .before .if1 .left)) (refl, c .before .before .set-flag2 .ensures)
 
 pub flag-end-spec : {M : Type 1} → statement M

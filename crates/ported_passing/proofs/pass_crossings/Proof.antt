@@ -11,7 +11,7 @@ use lib.Seq.{slice, slice-empty}
 use Rattle.ported_pieces.specs.Table.{chartIn}
 use Rattle.sweep.specs.Lists.{keep}
 use Rattle.ported_arrays.specs.Numbers.{crossing-at}
-use Rattle.ported_arrays.specs.Event.{flag, halves, pieces, are-min, free-all}
+use Rattle.ported_arrays.specs.Event.{flag, halves, pieces, free-all}
 use Rattle.ported_passing.specs.Passing.{standsAt}
 use Rattle.ported_passing.specs.Passing.{Passing}
 use Rattle.ported_passing.proofs.Passed.{On, on-start, on-inside, on-more, on-end, flag-more, turn-more, free-more, flag-length, free-length}

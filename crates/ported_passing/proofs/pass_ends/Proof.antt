@@ -10,8 +10,8 @@ use lib.ListN.{length, getD, drop}
 use lib.Seq.{slice, slice-empty}
 use Rattle.ported_pieces.specs.Table.{chartIn}
 use Rattle.sweep.specs.Lists.{keep}
-use Rattle.ported_arrays.specs.Numbers.{end-at}
-use Rattle.ported_arrays.specs.Event.{flag, halves, pieces, are-min, free-all}
+use Rattle.ported_arrays.specs.Numbers.{is-min, end-at}
+use Rattle.ported_arrays.specs.Event.{flag, halves, pieces, free-all}
 use Rattle.ported_passing.specs.Passing.{standsAt}
 use Rattle.ported_passing.specs.Passing.{Passing}
 use Rattle.ported_passing.proofs.Passed.{On, on-start, on-inside, on-more, on-end, flag-more, turn-more, free-more, flag-length, free-length}
@@ -23,7 +23,7 @@ use Rattle.ported_passing.proofs.flag_end.Reads as flag-end-reads
 use Rattle.ported_passing.proofs.is_end_at.Reads as is-end-at-reads
 
 abbrev Inv-loop : tie.InvT-loop
-Inv-loop table p ends from starting₀ finishing₀ k₀ starting finishing k = ((n : ℕ) → On (end-at (chartIn n table) p) ends from k) × (starting ≡ flag (halves (keep are-min (slice from k ends))) starting₀) × (finishing ≡ flag (halves (keep (λ f. not (are-min f)) (slice from k ends))) finishing₀)
+Inv-loop table p ends from starting₀ finishing₀ k₀ starting finishing k = ((n : ℕ) → On (end-at (chartIn n table) p) ends from k) × (starting ≡ flag (halves (keep is-min (slice from k ends))) starting₀) × (finishing ≡ flag (halves (keep (λ f. not (is-min f)) (slice from k ends))) finishing₀)
 
 abbrev μ-loop : tie.MeasureT-loop
 μ-loop table p ends from starting₀ finishing₀ k₀ starting finishing k = length ends - k
@@ -69,8 +69,8 @@ loop-again c =
     let o : st .args .from ≤ l .loop .k = (l .loop .inv .0 0) .onwards in
     let m = c .before .before .before .before .flag-end .ensures in (
       λ n. on-more _ es (st .args .from) (l .loop .k) (l .loop .inv .0 n) (goes (c .before .before .before .before .before .before .before .before) n),
-      m .0 ∙ ap (λ (z : List ℕ). flag (halves (keep are-min (getD es (l .loop .k) 0 ∷ []))) z) (l .loop .inv .1) ∙ sym (flag-more are-min es (st .args .from) (l .loop .k) o h _),
-      m .1 ∙ ap (λ (z : List ℕ). flag (halves (keep (λ f. not (are-min f)) (getD es (l .loop .k) 0 ∷ []))) z) (l .loop .inv .2) ∙ sym (flag-more (λ f. not (are-min f)) es (st .args .from) (l .loop .k) o h _),
+      m .0 ∙ ap (λ (z : List ℕ). flag (halves (keep is-min (getD es (l .loop .k) 0 ∷ []))) z) (l .loop .inv .1) ∙ sym (flag-more is-min es (st .args .from) (l .loop .k) o h _),
+      m .1 ∙ ap (λ (z : List ℕ). flag (halves (keep (λ f. not (is-min f)) (getD es (l .loop .k) 0 ∷ []))) z) (l .loop .inv .2) ∙ sym (flag-more (λ f. not (is-min f)) es (st .args .from) (l .loop .k) o h _),
     )
 
 same-length : tie.Need-same-length Inv-loop μ-loop

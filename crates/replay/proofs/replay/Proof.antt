@@ -6,7 +6,7 @@ use Prim.Native.Nat.{_*_, _≤_}
 use lib.Seq.{length-take-le}
 use Rattle.charts.specs.Chart.{most}
 use Rattle.chart_file.proofs.Counts.{bytes-given, read-most}
-use Rattle.chart_file.proofs.read.Reads as read-reads
+use Rattle.file_reader.proofs.read.Reads as read-reads
 use Rattle.replay.proofs.answer.Reads as answer-reads
 use Rattle.replay.proofs.text.refusal.Reads as refusal-reads
 use Rattle.replay.proofs.replay.Reads as reads

@@ -10,7 +10,9 @@ use crate::answers::{Chart, LIMIT, MOST_PIECES, Point, is_upright};
 use crate::charts::{self, Random};
 use crate::original::{self, Original};
 use crate::refusals::numbers;
-use crate::{bench_full, bench_sweep, file, files, library, model, writing};
+use crate::{
+  bench_calls, bench_full, bench_schedule, bench_sweep, file, files, library, model, writing,
+};
 
 const SEED: u64 = 6;
 /// A time is that of the quickest of so many batches of calls.
@@ -18,7 +20,7 @@ pub const BATCHES: usize = 40;
 const POINTS: usize = 1_000;
 
 /// Prints the tables; `programs` is the folder with the programs of plain.cpp, once.c and, where it could be had,
-/// cgal.cpp. Where the library is not compiled for the processor, only the last table, of its text.
+/// cgal.cpp. Where the library is not compiled for the processor, only the table of both modes, of its text.
 pub fn print(programs: &Path) -> Result<()> {
   if !cfg!(target_arch = "x86_64") {
     return bench_full::print(programs);
@@ -50,15 +52,14 @@ pub fn print(programs: &Path) -> Result<()> {
     file_row(name, chart)?;
   }
   println!();
-  println!("| chart | pieces | pairs | plain order, ms | sweep, ms | plain order / sweep |");
-  println!("|---|---|---|---|---|---|");
-  for (name, chart) in &charts {
-    ordered_row(name, chart)?;
-  }
-  println!();
   bench_sweep::print(&charts, programs)?;
   println!();
-  bench_full::print(programs)
+  bench_full::print(programs)?;
+  println!();
+  bench_calls::print();
+  println!();
+  bench_schedule::print();
+  Ok(())
 }
 
 /// A chart has so many pieces: a small one, as many as a chart had until 2026-07, and as many as it has.
@@ -142,31 +143,6 @@ fn pairs_row(name: &str, chart: &Chart, plain: &Path) -> Result<()> {
     .map(|r| format!("{r:.1}"))
     .join(" | ");
   println!("| {name} | {n} | {count} | {ms} | {ratios} |");
-  Ok(())
-}
-
-/// The list in plain order, and the sweep that leaves the same.
-fn ordered_row(name: &str, chart: &Chart) -> Result<()> {
-  let n = chart.len();
-  let list = numbers(chart);
-  let (mut ordered, mut swept) = (vec![0; n * (n - 1)], vec![0; n * (n - 1)]);
-  let count = library::plain_order(&list, &mut ordered).count;
-  let steps = library::sweep(&list, u32::MAX, &mut swept).steps as usize;
-  if ordered != swept {
-    return Err(Error::other("the lists differ"));
-  }
-  let calls = (20_000 / steps).max(1);
-  let plain = least(BATCHES, calls, || {
-    black_box(library::plain_order(black_box(&list), &mut ordered));
-  });
-  let sweep = least(BATCHES, calls, || {
-    black_box(library::sweep(black_box(&list), u32::MAX, &mut swept));
-  });
-  let [plain_ms, sweep_ms] = [plain, sweep].map(|ns| format!("{:.4}", ns / 1e6));
-  println!(
-    "| {name} | {n} | {count} | {plain_ms} | {sweep_ms} | {:.2} |",
-    plain / sweep
-  );
   Ok(())
 }
 

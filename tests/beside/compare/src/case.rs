@@ -12,6 +12,8 @@ use crate::{
 pub struct Case {
   pub chart: Chart,
   pub original: Original,
+  /// Nothing is asked of the Rust twice, and no sweep is stopped at every budget.
+  pub swift: bool,
 }
 
 impl Case {
@@ -19,6 +21,7 @@ impl Case {
     Case {
       chart: chart.clone(),
       original: Original::new(chart),
+      swift: false,
     }
   }
 
@@ -36,7 +39,7 @@ impl Case {
 
   /// Small enough to ask the Rust's exact numbers about everything.
   pub fn is_small(&self) -> bool {
-    self.chart.len() <= 12
+    self.chart.len() <= 12 && !self.swift
   }
 }
 
@@ -71,11 +74,24 @@ fn compare_lists(case: &Case) -> Result<(), String> {
 /// Compares every answer about a chart but the steps of the Rust's sweep, which would take minutes, and but those without
 /// a piece.
 pub fn check_fullest(chart: &Chart) -> Result<(), String> {
-  let case = Case::new(chart);
-  compare_meetings(&case)?;
-  let due = full::compare_alone(&case)?;
-  plain::compare_with(&case, &due.pairs())?;
-  compare_lists(&case)
+  compare_without_steps(&Case::new(chart))
+}
+
+/// Compares the same swiftly, and the list of the Rust's sweep.
+pub fn check_swiftly(chart: &Chart) -> Result<(), String> {
+  let case = Case {
+    swift: true,
+    ..Case::new(chart)
+  };
+  compare_without_steps(&case)?;
+  sweep::compare_list(&case)
+}
+
+fn compare_without_steps(case: &Case) -> Result<(), String> {
+  compare_meetings(case)?;
+  let due = full::compare_alone(case)?;
+  plain::compare_with(case, &due.pairs())?;
+  compare_lists(case)
 }
 
 /// Compares how the pieces of a chart meet, and nothing else.

@@ -1,10 +1,10 @@
 //! Files that no chart has: every short one of telling bytes, every change of a byte, cut and
-//! extension of sound ones, random bytes, and every size of the lent list up to the limit. And files
+//! extension of sound ones, random bytes and random changes, and every size of the lent list up to the limit. And files
 //! of every count, in as many groups as it has and in more.
 
 use crate::answers::{Chart, LIMIT, MOST_PIECES, Refusal};
 use crate::case::agree;
-use crate::charts::Random;
+use crate::charts::{Random, scattered};
 use crate::file::{self, ROOM, compare_reading, damaged, in_groups, write};
 use crate::kept;
 
@@ -23,22 +23,23 @@ pub fn compare(seed: u64, count: usize) -> Result<(usize, usize), String> {
   for chart in kept::charts().into_iter().chain([widest()]) {
     files.extend(changed(&write(&chart)));
   }
-  files.extend((0..count).map(|i| random(&mut Random::new(seed, i))));
   for (bytes, due) in counts((0..=MOST_PIECES as u32).chain(BEYOND)) {
     let call = || format!("the count of {bytes:02x?}");
     let read = file::read(&bytes).map(|chart| chart.len());
     agree(call, "scope", due, "model", read)?;
     files.push(bytes);
   }
-  let mut read = 0;
-  for bytes in &files {
-    read += usize::from(compare_reading(bytes, ROOM)?);
+  let random = (0..count).map(|i| random(&mut Random::new(seed, i)));
+  let (mut compared, mut read) = (0, 0);
+  for bytes in files.into_iter().chain(random) {
+    compared += 1;
+    read += usize::from(compare_reading(&bytes, ROOM)?);
   }
   for lent in 0..ROOM + 6 {
     compare_reading(&write(&widest()), lent)?;
     compare_reading(&[], lent)?;
   }
-  Ok((files.len(), read))
+  Ok((compared, read))
 }
 
 /// The sample that a program of the library replays: short files, and those of small charts, sound
@@ -133,13 +134,39 @@ fn changed(sound: &[u8]) -> Vec<Vec<u8>> {
   files
 }
 
-/// A count and random bytes, half of them telling.
 fn random(random: &mut Random) -> Vec<u8> {
-  let mut bytes = in_groups(random.between(0, MOST_PIECES as i32 + 1) as u32);
-  for _ in 0..random.between(0, 900) {
-    let any = random.between(0, 255) as u8;
-    let telling = random.pick(&TELLING);
-    bytes.push(random.pick(&[any, telling]));
+  match random.pick(&[false, true]) {
+    true => scrambled(random),
+    false => any_bytes(random),
+  }
+}
+
+/// The file of a random chart with a few bytes changed, and one in four cut.
+fn scrambled(random: &mut Random) -> Vec<u8> {
+  let count = random.between(0, MOST_PIECES as i32) as usize;
+  let reach = random.pick(&[20, 3_000, LIMIT]);
+  let mut bytes = write(&scattered(random, count, reach));
+  for _ in 0..random.between(0, 3) {
+    let at = random.between(0, bytes.len() as i32 - 1) as usize;
+    bytes[at] = any_or_telling(random);
+  }
+  if random.between(0, 3) == 0 {
+    bytes.truncate(random.between(0, bytes.len() as i32) as usize);
   }
   bytes
+}
+
+/// A count and random bytes.
+fn any_bytes(random: &mut Random) -> Vec<u8> {
+  let mut bytes = in_groups(random.between(0, MOST_PIECES as i32 + 1) as u32);
+  for _ in 0..random.between(0, 900) {
+    bytes.push(any_or_telling(random));
+  }
+  bytes
+}
+
+fn any_or_telling(random: &mut Random) -> u8 {
+  let any = random.between(0, 255) as u8;
+  let telling = random.pick(&TELLING);
+  random.pick(&[any, telling])
 }

@@ -1,7 +1,11 @@
 //! Holds the published Rust, this library and a plain model against each other, chart by chart.
 //!
 //!   compare gate [SHARE]       the fixed charts, or those kept by hand and of every other family one chart in SHARE
-//!   compare long SEED COUNT    those kept by hand, and COUNT random charts of each temper from SEED
+//!   compare long SEED COUNT [LARGE]
+//!                              those kept by hand, and from SEED COUNT random charts of each temper, or of the tempers with
+//!                              large charts LARGE; COUNT random files; and LARGE days of an open chart
+//!   compare swift SEED COUNT   COUNT random charts of each temper with small charts from SEED, in everything but steps and
+//!                              what is left without a piece; and as many random files
 //!   compare written            the charts of the gate, each with the file that the library writes
 //!   compare record FOLDER      writes the Rust's answers on a fixed sample
 //!   compare listing FILE       what the Rust lists of a chart file, as the chart program's text
@@ -10,7 +14,9 @@
 mod answers;
 mod batch;
 mod bench;
+mod bench_calls;
 mod bench_full;
+mod bench_schedule;
 mod bench_sweep;
 mod case;
 mod charts;
@@ -22,6 +28,7 @@ mod half_line;
 mod kept;
 mod lent;
 mod library;
+mod list_call;
 mod model;
 mod model_sweep;
 mod naive;
@@ -90,7 +97,15 @@ fn main() -> ExitCode {
       _ => return usage(),
     },
     ["long", seed, count] => match (seed.parse(), count.parse()) {
-      (Ok(seed), Ok(count)) => (long(seed, count), seed, count, count),
+      (Ok(seed), Ok(count)) => (long(seed, count, count), seed, count, count),
+      _ => return usage(),
+    },
+    ["long", seed, count, large] => match (seed.parse(), count.parse(), large.parse()) {
+      (Ok(seed), Ok(count), Ok(large)) => (long(seed, count, large), seed, count, large),
+      _ => return usage(),
+    },
+    ["swift", seed, count] => match (seed.parse(), count.parse()) {
+      (Ok(seed), Ok(count)) => (swift(seed, count), seed, SMALL.len() * count, 0),
       _ => return usage(),
     },
     ["written"] => return written(writing::print(whole().iter().flat_map(Family::charts))),
@@ -156,7 +171,7 @@ fn main() -> ExitCode {
 
 fn usage() -> ExitCode {
   eprintln!(
-    "usage: compare gate [SHARE] | long SEED COUNT | written | record FOLDER | listing FILE | bench FOLDER"
+    "usage: compare gate [SHARE] | long SEED COUNT [LARGE] | swift SEED COUNT | written | record FOLDER | listing FILE | bench FOLDER"
   );
   ExitCode::from(2)
 }
@@ -171,40 +186,34 @@ fn written(outcome: std::io::Result<()>) -> ExitCode {
   }
 }
 
+/// A temper of random charts: its name, how many of them the gate has, and how one is made.
+type Temper = (&'static str, usize, fn(&mut Random) -> Chart);
+
+const SMALL: [Temper; 6] = [
+  ("degenerate", 17_000, charts::degenerate),
+  ("extreme", 3_000, charts::extreme),
+  ("near-tied", 2_000, charts::near_ties),
+  ("half-way", 2_000, charts::near_halves),
+  ("near-whole", 2_000, charts::near_wholes),
+  ("upright", 8_000, charts::uprights),
+];
+
+const LARGE: [Temper; 3] = [
+  ("any-size", 300, charts::any_size),
+  ("middle-size", 700, charts::middle_size),
+  ("full-size", 200, charts::full_size),
+];
+
 fn gate(share: usize) -> Vec<Family> {
-  vec![
-    kept(),
-    thinned(tiny(), share),
-    thinned(grid_pairs(), share),
-    thinned(
-      random("degenerate", GATE_SEED, 17_000, charts::degenerate),
-      share,
-    ),
-    thinned(random("extreme", GATE_SEED, 3_000, charts::extreme), share),
-    thinned(
-      random("near-tied", GATE_SEED, 2_000, charts::near_ties),
-      share,
-    ),
-    thinned(
-      random("half-way", GATE_SEED, 2_000, charts::near_halves),
-      share,
-    ),
-    thinned(
-      random("near-whole", GATE_SEED, 2_000, charts::near_wholes),
-      share,
-    ),
-    thinned(random("upright", GATE_SEED, 8_000, charts::uprights), share),
-    thinned(random("any-size", GATE_SEED, 300, charts::any_size), share),
-    thinned(
-      random("middle-size", GATE_SEED, 700, charts::middle_size),
-      share,
-    ),
-    thinned(
-      random("full-size", GATE_SEED, 200, charts::full_size),
-      share,
-    ),
-    fullest(),
-  ]
+  let random = SMALL.iter().chain(&LARGE);
+  let random = random.map(|&(name, count, make)| random_charts(name, GATE_SEED, count, make));
+  let counted = [tiny(), grid_pairs()].into_iter().chain(random);
+  let thinned = counted.map(|family| thinned(family, share));
+  [kept()]
+    .into_iter()
+    .chain(thinned)
+    .chain([fullest()])
+    .collect()
 }
 
 /// Those of the gate on which everything is compared.
@@ -224,19 +233,21 @@ fn thinned(family: Family, share: usize) -> Family {
   }
 }
 
-fn long(seed: u64, count: usize) -> Vec<Family> {
-  vec![
-    kept(),
-    random("degenerate", seed, count, charts::degenerate),
-    random("extreme", seed, count, charts::extreme),
-    random("near-tied", seed, count, charts::near_ties),
-    random("half-way", seed, count, charts::near_halves),
-    random("near-whole", seed, count, charts::near_wholes),
-    random("upright", seed, count, charts::uprights),
-    random("any-size", seed, count, charts::any_size),
-    random("middle-size", seed, count, charts::middle_size),
-    random("full-size", seed, count, charts::full_size),
-  ]
+fn long(seed: u64, count: usize, large: usize) -> Vec<Family> {
+  let of = |tempers: &'static [Temper], count| {
+    let random = move |&(name, _, make): &Temper| random_charts(name, seed, count, make);
+    tempers.iter().map(random)
+  };
+  let random = of(&SMALL, count).chain(of(&LARGE, large));
+  [kept()].into_iter().chain(random).collect()
+}
+
+fn swift(seed: u64, count: usize) -> Vec<Family> {
+  let random = |&(name, _, make): &Temper| Family {
+    check: case::check_swiftly,
+    ..random_charts(name, seed, count, make)
+  };
+  SMALL.iter().map(random).collect()
 }
 
 fn kept() -> Family {
@@ -277,7 +288,12 @@ fn grid_pairs() -> Family {
   }
 }
 
-fn random(name: &'static str, seed: u64, count: usize, make: fn(&mut Random) -> Chart) -> Family {
+fn random_charts(
+  name: &'static str,
+  seed: u64,
+  count: usize,
+  make: fn(&mut Random) -> Chart,
+) -> Family {
   Family {
     name,
     count,

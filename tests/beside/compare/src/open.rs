@@ -11,7 +11,7 @@ use crate::refusals::verdict;
 use crate::{library, model};
 
 const PLACES: usize = 200;
-const NUMBERS: usize = 5 * PLACES;
+pub const NUMBERS: usize = 5 * PLACES;
 const VACANT: Piece = [-1; 5];
 const CHANGES: usize = 60;
 const FULL_DAYS: usize = 2;

@@ -9,7 +9,8 @@ use crate::original;
 pub fn compare(case: &Case) -> Result<(), String> {
   for (a, b) in case.pairs() {
     let call = || format!("place of the meeting of {a} and {b}");
-    let found = points(case.original.meeting(a, b), case.original.crossing(a, b));
+    let crossing = || case.original.crossing(a, b);
+    let found = points(case.original.meeting(a, b), crossing);
     let [line, other] = [a, b].map(|i| Line::of(&case.chart[i]));
     same(call, &found, "model", &model::place_of(&line, &other))?;
     let rust = bits(found.iter().map(original::place));
@@ -22,10 +23,10 @@ pub fn compare(case: &Case) -> Result<(), String> {
 
 /// Where two pieces meet by the Rust's answers: nowhere, at a point, or along from one point to another.
 /// The ends of an overlap of one point are equal.
-pub fn points(meeting: Meeting, crossing: Option<Point>) -> Vec<Point> {
+pub fn points(meeting: Meeting, crossing: impl FnOnce() -> Option<Point>) -> Vec<Point> {
   match meeting {
     Meeting::Nothing => vec![],
-    Meeting::Crossing => vec![crossing.expect("pieces that cross have a crossing")],
+    Meeting::Crossing => vec![crossing().expect("pieces that cross have a crossing")],
     Meeting::Overlap(from, to) => {
       let mut ends = vec![at(&from), at(&to)];
       ends.dedup();

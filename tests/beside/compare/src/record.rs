@@ -6,7 +6,7 @@ use std::fs;
 use std::io;
 use std::path::Path;
 
-use crate::answers::{Chart, End, Meeting, Pair, Point, is_upright};
+use crate::answers::{Chart, End, Meeting, Pair, Point, Swept, is_upright};
 use crate::charts::{self, Random};
 use crate::file;
 use crate::files;
@@ -14,6 +14,7 @@ use crate::full::Due;
 use crate::kept;
 use crate::original::{self, Original};
 use crate::place;
+use crate::sweep_call;
 
 const SEED: u64 = 2;
 
@@ -132,7 +133,7 @@ fn place(chart: &Chart) -> String {
 }
 
 fn points(original: &Original, a: usize, b: usize) -> Vec<Point> {
-  place::points(original.meeting_exact(a, b), original.crossing(a, b))
+  place::points(original.meeting_exact(a, b), || original.crossing(a, b))
 }
 
 /// One line: the count of pairs, then each pair.
@@ -142,36 +143,36 @@ fn naive(chart: &Chart) -> String {
   format!("{}{pairs}\n", list.len())
 }
 
-/// A line for each budget from 0 to the last step: steps done, pairs listed, whether the queue is
-/// empty, the last point; then the list.
+/// A line for each budget from 0 to the last step: steps done, pairs listed, pairs examined, whether the queue is empty, the
+/// last point; then the list.
 fn sweep(chart: &Chart) -> String {
   let run = Original::new(chart).run();
-  let steps: Vec<(usize, Point)> = run
-    .steps
-    .iter()
-    .map(|step| (step.listed, step.visited))
-    .collect();
-  stops(chart, !chart.iter().any(is_upright), &steps, &run.list)
+  let complete = !chart.iter().any(is_upright);
+  let stopped = |budget| sweep_call::stopped(&run, complete, budget);
+  stops(chart, run.steps.len() as u32, stopped, &run.list)
 }
 
 /// The same of the new mode, from the Rust's all pairs.
 fn full_sweep(chart: &Chart) -> String {
   let due = Due::of(chart, &Original::new(chart));
-  let step = |(m, p): (usize, &Point)| (due.stopped(m as u32 + 1).pairs, *p);
-  let steps: Vec<(usize, Point)> = due.points.iter().enumerate().map(step).collect();
-  stops(chart, true, &steps, &due.pairs())
+  let steps = due.points.len() as u32;
+  stops(chart, steps, |budget| due.stopped(budget), &due.pairs())
 }
 
-fn stops(chart: &Chart, complete: bool, steps: &[(usize, Point)], list: &[Pair]) -> String {
-  let mut text = format!("chart {} complete {}\n", chart.len(), yes_no(complete));
-  let _ = writeln!(text, "0 listed 0 ended {} none", yes_no(steps.is_empty()));
-  for (m, (listed, visited)) in steps.iter().enumerate() {
-    let ended = yes_no(m + 1 == steps.len());
+fn stops(chart: &Chart, steps: u32, stopped: impl Fn(u32) -> Swept, list: &[Pair]) -> String {
+  let complete = yes_no(stopped(steps).complete);
+  let mut text = format!("chart {} complete {complete}\n", chart.len());
+  for budget in 0..=steps {
+    let told = stopped(budget);
+    let (done, listed, examined) = (told.steps, told.pairs, told.examined);
+    let ended = yes_no(told.ended);
+    let last = match told.last {
+      Some(visited) => format!("at {}", point(&visited)),
+      None => "none".to_string(),
+    };
     let _ = writeln!(
       text,
-      "{} listed {listed} ended {ended} at {}",
-      m + 1,
-      point(visited)
+      "{done} listed {listed} examined {examined} ended {ended} {last}"
     );
   }
   let pairs: String = list.iter().map(|(a, b)| format!(" {a} {b}")).collect();

@@ -36,10 +36,7 @@ fn with_a_simpler_number(chart: &Chart) -> impl Iterator<Item = Chart> {
     let v = chart[i][k];
     let smaller = match k {
       0 => vec![3; usize::from(v != 3)],
-      _ => [0, v / 2, v - v.signum()]
-        .into_iter()
-        .filter(|s| s.abs() < v.abs())
-        .collect(),
+      _ => nearer_to_zero(v),
     };
     let with = move |s| {
       let mut simpler = chart.clone();
@@ -49,4 +46,11 @@ fn with_a_simpler_number(chart: &Chart) -> impl Iterator<Item = Chart> {
     let charts = smaller.into_iter().map(with);
     charts.filter(move |c| has_length(&c[i]))
   })
+}
+
+/// Less all of it, half, a quarter and so on down to one: far steps first, so that few are needed.
+fn nearer_to_zero(v: i32) -> Vec<i32> {
+  let parts = std::iter::successors(Some(v), |part| Some(part / 2));
+  let parts = parts.take_while(|part| *part != 0);
+  parts.map(|part| v - part).collect()
 }

@@ -4,7 +4,9 @@
 
 use crate::answers::{Pair, Run, is_upright};
 use crate::case::{Case, same};
-use crate::{full, model_sweep, sweep_call, text};
+use crate::lent::{self, SPARE, room};
+use crate::refusals::numbers;
+use crate::{full, library, model_sweep, sweep_call, text};
 
 pub fn compare(case: &Case) -> Result<(), String> {
   let list = case.original.sweep();
@@ -25,6 +27,16 @@ pub fn compare(case: &Case) -> Result<(), String> {
   swept.sort();
   let call = || "all pairs, and the sweep's in their order".to_string();
   same(call, case.original.naive(), "sweep", swept)
+}
+
+/// The list of the Rust's sweep alone, beside what the library leaves in lent bytes.
+pub fn compare_list(case: &Case) -> Result<(), String> {
+  let list = case.original.sweep();
+  let mut bytes = lent::bytes(room(case.chart.len()) + SPARE);
+  let content = lent::with_pairs(&bytes, &list);
+  let swept = library::sweep(&numbers(&case.chart), u32::MAX, &mut bytes);
+  let call = || "the list of a sweep".to_string();
+  same(call, (list.len(), content), "library", (swept.pairs, bytes))
 }
 
 fn compare_steps(run: &Run, whose: &str, theirs: &Run) -> Result<(), String> {

@@ -109,14 +109,14 @@ fn budgets(case: &Case, end: u32) -> Vec<u32> {
   let mut budgets: Vec<u32> = if case.is_small() {
     (0..=end + 1).collect()
   } else {
-    vec![0, 1, end / 2, end - 1, end, end + 1]
+    vec![0, 1, end / 2, end.saturating_sub(1), end, end + 1]
   };
   budgets.extend(ENDLESS);
   budgets
 }
 
 /// What the Rust's steps say of a sweep with this budget.
-fn stopped(run: &Run, complete: bool, budget: u32) -> Swept {
+pub fn stopped(run: &Run, complete: bool, budget: u32) -> Swept {
   let done = run.steps.len().min(budget as usize);
   let last = run.steps[..done].last();
   Swept {

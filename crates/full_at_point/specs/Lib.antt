@@ -1,0 +1,2 @@
+-- What the contracts of a step at a known point cite.
+pub mod AtPoint

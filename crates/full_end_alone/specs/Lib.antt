@@ -1,0 +1,2 @@
+-- What the contracts of an end alone cite.
+pub mod Alone

@@ -1,0 +1,2 @@
+-- What the contracts of the ends in order cite beside `ported_arrays`.
+pub mod Places

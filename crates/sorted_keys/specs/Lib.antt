@@ -1,0 +1,2 @@
+-- What it is for numbers to be in order.
+pub mod Rising
