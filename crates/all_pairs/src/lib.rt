@@ -1,4 +1,6 @@
 // All pairs of a chart that meet, after the Rust's naive.rs: for a from 0, for b below a.
+#![tactic(auto)]
+
 ghost use Rattle.std.specs.Prelude.{◌≡◌, ◌≤◌, length, take};
 ghost use Rattle.charts.specs.Chart.{most};
 ghost use Rattle.charts.specs.Answer.{room};

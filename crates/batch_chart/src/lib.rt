@@ -1,4 +1,6 @@
 // One chart of a batch, swept as it would be alone, and its result in numbers.
+#![tactic(auto)]
+
 ghost use Rattle.std.specs.Prelude.{◌≡◌, length};
 ghost use Rattle.batch.specs.Numbers.{numbers_of};
 ghost use Rattle.batch.specs.Single.{swept_alone, left_alone};

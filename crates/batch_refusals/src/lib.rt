@@ -1,4 +1,6 @@
 // What a batch is refused for, and the bytes that each of its charts needs.
+#![tactic(auto)]
+
 ghost use Rattle.std.specs.Prelude.{◌≡◌};
 ghost use Rattle.batch.specs.Charts.{need, fits};
 ghost use Rattle.batch.specs.Batch.{refusal_of};

@@ -1,4 +1,6 @@
 // What a sweep returns, in the ten numbers of a result.
+#![tactic(auto)]
+
 ghost use Rattle.std.specs.Prelude.{◌≡◌, ◌++◌, length, take};
 ghost use Rattle.batch.specs.Numbers.{word, flag, last_numbers, numbers_of};
 

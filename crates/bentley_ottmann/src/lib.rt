@@ -1,4 +1,6 @@
 // Module 6, the sweep, after the Rust's bentley_ottmann.rs: a chart's pieces swept from left to right.
+#![tactic(auto)]
+
 ghost use Rattle.std.specs.Prelude.{◌≡◌, ◌≤◌, length};
 ghost use Rattle.charts.specs.Chart.{verdict_of};
 ghost use Rattle.charts.specs.Answer.{room};

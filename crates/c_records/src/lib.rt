@@ -1,4 +1,6 @@
 // What the calls for C return: records of plain numbers, in which a case is told by its number.
+#![tactic(auto)]
+
 ghost use Rattle.std.specs.Prelude.{◌≡◌};
 ghost use Rattle.c_records.specs.Sweeps.{swept_as};
 ghost use Rattle.c_records.specs.Checks.{checked_as};

@@ -1,5 +1,7 @@
 // The chart program: a chart file on standard input, its listing on standard output. What it prints is print_parts'; nothing
 // of the input past what decides it is read.
+#![tactic(auto)]
+
 use libc::STDIN_FILENO;
 
 fn main() {

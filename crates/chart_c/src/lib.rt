@@ -1,4 +1,6 @@
 // The library's calls under plain names, for C and Rust to link (include/mirtalughe.h).
+#![tactic(auto)]
+
 ghost use Rattle.std.specs.Prelude.{◌≡◌, length};
 ghost use Rattle.orientation.specs.Turn.{det, turn_of};
 ghost use Rattle.fractions.specs.Point.{point_order};
@@ -8,16 +10,16 @@ ghost use Rattle.chart_file.specs.Reading.{Reads};
 ghost use Rattle.chart_writer.specs.Writing.{Writes};
 ghost use Rattle.naive.specs.AllPairs.{all_pairs_of, lent_after};
 ghost use Rattle.bentley_ottmann.specs.Swept.{sweep_of};
-ghost use Rattle.bentley_ottmann.specs.Swept.{lent_after as sweptAfter};
+ghost use Rattle.bentley_ottmann.specs.Swept.{lent_after as swept_after};
 ghost use Rattle.full_sweep.specs.Swept.{sweep_of as full_sweep_of, lent_after as full_after};
 ghost use Rattle.open_chart.specs.Memory.{five};
 ghost use Rattle.open_chart.specs.Changes.{changed_of, adding, dropping, after_adding, after_dropping, emptying_of, after_emptying, used_of};
 ghost use Rattle.open_chart.specs.Listing.{open_pairs_of};
-ghost use Rattle.open_chart.specs.Listing.{lent_after as openAfter};
+ghost use Rattle.open_chart.specs.Listing.{lent_after as open_after};
 ghost use Rattle.supplied.specs.Checking.{checked_of};
 ghost use Rattle.folded_line.specs.Drawing.{Draws};
 ghost use Rattle.plain_order.specs.Plain.{plain_of};
-ghost use Rattle.plain_order.specs.Plain.{lent_after as orderedAfter};
+ghost use Rattle.plain_order.specs.Plain.{lent_after as ordered_after};
 ghost use Rattle.batch.specs.Batch.{Batches};
 ghost use Rattle.c_records.specs.Sweeps.{swept_fields};
 ghost use Rattle.c_records.specs.Checks.{checked_as};
@@ -126,7 +128,7 @@ pub extern "C" fn mirtalughe_all_pairs(list: &[i32], pairs: &mut [u8]) -> Answer
 // The pairs that meet of a chart without upright pieces, two bytes a pair, in the order of their first common points.
 #[unsafe(no_mangle)]
 pub extern "C" fn mirtalughe_plain_order(list: &[i32], pairs: &mut [u8]) -> Answer
-    ensures { (result ≡ plain_of list.now (length pairs.old)) × (pairs.new ≡ orderedAfter list.now pairs.old) }
+    ensures { (result ≡ plain_of list.now (length pairs.old)) × (pairs.new ≡ ordered_after list.now pairs.old) }
 {
     order_pairs::plain_order(list, pairs)
 }
@@ -134,7 +136,7 @@ pub extern "C" fn mirtalughe_plain_order(list: &[i32], pairs: &mut [u8]) -> Answ
 // Sweeps a chart's pieces as the Rust does, at most `budget` steps.
 #[unsafe(no_mangle)]
 pub extern "C" fn mirtalughe_sweep(list: &[i32], budget: u32, pairs: &mut [u8]) -> SweptFields
-    ensures { (result ≡ swept_fields (sweep_of list.now budget (length pairs.old))) × (pairs.new ≡ sweptAfter list.now budget pairs.old) }
+    ensures { (result ≡ swept_fields (sweep_of list.now budget (length pairs.old))) × (pairs.new ≡ swept_after list.now budget pairs.old) }
 {
     let swept = bentley_ottmann::sweep(list, budget, pairs);
     let last = swept.last;
@@ -248,7 +250,7 @@ pub extern "C" fn mirtalughe_open_used(chart: &[i32]) -> Answer
 // Every pair of an open chart's pieces that meet, under the numbers of their places.
 #[unsafe(no_mangle)]
 pub extern "C" fn mirtalughe_open_pairs(chart: &[i32], pairs: &mut [u8]) -> Answer
-    ensures { (result ≡ open_pairs_of chart.now (length pairs.old)) × (pairs.new ≡ openAfter chart.now pairs.old) }
+    ensures { (result ≡ open_pairs_of chart.now (length pairs.old)) × (pairs.new ≡ open_after chart.now pairs.old) }
 {
     open_pairs::all_pairs(chart, pairs)
 }

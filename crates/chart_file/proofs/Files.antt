@@ -18,7 +18,7 @@ use Rattle.chart_file.specs.Groups.{Bytes}
 use Rattle.chart_file.specs.Format.{bytes_of, bytes_from, count_of, file_of}
 use Rattle.chart_file.specs.Reading.{due}
 use Rattle.chart_file.specs.Demand.{InRange, place_of, EndsEqual, Begins, Due, ReadsExactly, ReadsFile, FileReads, ReadsOnce}
-use Rattle.chart_file.specs.Demand.{chart as Due·chart}
+use Rattle.chart_file.specs.Demand.{chart as due_chart}
 use Rattle.chart_file.proofs.Forth.{due_met}
 use Rattle.chart_file.proofs.Back.{due_given}
 use Rattle.chart_file.proofs.Spelling.{bytes_spelled}
@@ -82,7 +82,7 @@ begins_sound s list n l w =
 -- ---- the promises
 
 pub chart_row : (s : List ℕ) (list : List ℤ) (at : ℕ) → Due s (due list at) → (n : ℕ) × (length list ≡ 5 * n) × Begins s n n list []
-chart_row s list at (Due·chart n xs l w) = (n, l, w)
+chart_row s list at (due_chart n xs l w) = (n, l, w)
 
 sound_row : (list : List ℤ) (n : ℕ) → ChartDue list (Accepted n) → (length list ≡ 5 * n) × (n ≤ most) × Sound list n
 sound_row list n (done m l h w) = (l, h, w)
@@ -111,7 +111,7 @@ file_reads list n e =
     let b : Bytes (file_of list) = bytes_append (count_of (length list / 5)) (bytes_from 0 list) (bytes_spelled _ _) (list_bytes 0 list (λ j h. rw zero-add (chart_ranges list n e j h))) in
     let c : length list / 5 ≡ n = omega (arith, q.0) in
     let l : place_of n list ≡ length (file_of list) = rw c (sym (length-append (count_of n) (bytes_from 0 list))) in
-    (b, (reads_exactly (file_of list) b (due list (place_of n list))).1 (Due·chart n list q.0 w) ∙ ap (due list) l)
+    (b, (reads_exactly (file_of list) b (due list (place_of n list))).1 (due_chart n list q.0 w) ∙ ap (due list) l)
 
 pub reads_once : ReadsOnce
 reads_once s s' b b' list at at' e e' = (reads_file s b list at e).0 ∙ sym (reads_file s' b' list at' e').0

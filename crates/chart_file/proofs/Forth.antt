@@ -20,7 +20,7 @@ use Rattle.chart_file.specs.Format.{groups, bytes_of, bytes_from, count_of}
 use Rattle.chart_file.specs.Reading.{Reading, due, stopped, limited, count_at, counted, stands_at, joined, more, numbers, with_length, piece, pieces, ended, reading_of}
 use Rattle.chart_file.specs.Demand.{InRange, Amiss, place_of, EndsEqual, Begins, Due, count_fault, count, number, extra, chart, InGroups, ends, unended, padded}
 use Rattle.chart_file.specs.Demand.{number as inside}
-use Rattle.chart_file.specs.Demand.{piece as Due·piece}
+use Rattle.chart_file.specs.Demand.{piece as due_piece}
 use Rattle.chart_file.proofs.Marks.{groups_exactly}
 use Rattle.chart_file.proofs.OneNumber.{Stands, well, ill, number_row}
 use Rattle.chart_file.proofs.Begun.{place_one, rest_there, begins_more, fault_ends, ends_fault}
@@ -83,7 +83,7 @@ module _ (s : List ℕ) (b : Bytes s) (n : ℕ) where
       test false ys k e v =
           let r : (c : ℕ) → c < 5 → InRange c (number_at ys p c) = λ c l. v.3.ranges p c l (omega (arith, v.0)) in
           subst (λ (j : ℕ). Due s (stopped 6 j)) (ap (place_of n) v.1 ∙ sym w.1)
-          (Due·piece n p ys (drop k s) h v.0 v.3 (fault_ends ys p r (eqb-false (fault_at ys p) 0 e)))
+          (due_piece n p ys (drop k s) h v.0 v.3 (fault_ends ys p r (eqb-false (fault_at ys p) 0 e)))
 
       go : (r : Reading) → Reached p 5 xs r → Got (suc p) (with_length p at r)
       go (stopped f q) v = v

@@ -1,4 +1,6 @@
 // The chart file: what stands in groups at a place, a number read there, and where reading stops. No function stands here.
+#![tactic(auto)]
+
 use charts::MOST;
 
 // The numbers of the largest chart: a caller lends as many.

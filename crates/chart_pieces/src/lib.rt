@@ -1,5 +1,7 @@
 // The pieces of a chart that is given as a list of numbers, five a piece, and whether one is upright. Every public function
 // that has no `requires` takes every list.
+#![tactic(auto)]
+
 ghost use Rattle.std.specs.Prelude.{◌≡◌, ◌<◌};
 ghost use Rattle.charts.specs.Chart.{number_at};
 ghost use Rattle.charts.specs.Piece.{kind_of, coordinate_of, piece_at, is_upright, no_upright};

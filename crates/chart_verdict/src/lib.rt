@@ -1,5 +1,7 @@
 // What is said of a list of numbers before any work on it, and what a call on it answers: accepted as a chart, or refused
 // with the number and the place of its first fault.
+#![tactic(auto)]
+
 ghost use Rattle.std.specs.Prelude.{◌≡◌, ◌≤◌};
 ghost use Rattle.charts.specs.Chart.{fault_at, verdict_of};
 ghost use Rattle.charts.specs.Answer.{done_with, refused_with, room, listing_of};

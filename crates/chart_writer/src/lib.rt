@@ -1,1 +1,2 @@
 // No code: what writing a chart's file answers and leaves, and what is promised of it.
+#![tactic(auto)]

@@ -1,5 +1,7 @@
 // A chart given as a list of numbers, five a piece: kind, x1, y1, x2, y2. What its refusals, its pieces and the answers of
 // a call on it mean and their laws stand here; the code is in piece_fault, chart_pieces and chart_verdict.
+#![tactic(auto)]
+
 use line_segment::Meeting;
 
 // A chart has at most so many pieces.

@@ -1,4 +1,6 @@
 // Fractions and points of the chart, compared exactly. Every function takes every value of its types.
+#![tactic(auto)]
+
 ghost use Rattle.std.specs.Prelude.{◌≡◌, pos, ◌*ℤ◌};
 ghost use Rattle.std.specs.Int.Signed.{lt_z};
 ghost use Rattle.fractions.specs.Order.{order, turned};

@@ -1,12 +1,14 @@
 // Text in lent bytes: words and decimal numbers, one after another. Every function takes every value and every text; where
 // a text is full, what is put is left out.
+#![tactic(auto)]
+
 ghost use Rattle.std.specs.Prelude.{◌≡◌, [], ◌∷◌, ◌%◌};
-ghost use Rattle.decimals.specs.Text.{text as Text·text, put};
+ghost use Rattle.decimals.specs.Text.{text as text_of, put};
 ghost use Rattle.decimals.specs.Decimal.{digit, decimal, signed_decimal};
 
 // A byte at the end of a text; where the text ends then.
 pub fn put_byte(text: &mut [u8], end: usize, byte: u8) -> usize
-    ensures { Text·text text.new result ≡ put (byte ∷ []) (Text·text text.old end) }
+    ensures { text_of text.new result ≡ put (byte ∷ []) (text_of text.old end) }
 {
     if text.len() <= end {
         return end;
@@ -17,7 +19,7 @@ pub fn put_byte(text: &mut [u8], end: usize, byte: u8) -> usize
 
 // A word at the end of a text.
 pub fn put_word(text: &mut [u8], end: usize, word: &[u8]) -> usize
-    ensures { Text·text text.new result ≡ put word.now (Text·text text.old end) }
+    ensures { text_of text.new result ≡ put word.now (text_of text.old end) }
 {
     let size = word.len();
     let mut next = end;
@@ -36,7 +38,7 @@ fn last_digit(n: u64) -> u8
 
 // A number's digits at the end of a text: it falls at every call.
 pub fn put_natural(text: &mut [u8], end: usize, n: u64) -> usize
-    ensures { Text·text text.new result ≡ put (decimal n) (Text·text text.old end) }
+    ensures { text_of text.new result ≡ put (decimal n) (text_of text.old end) }
 {
     if n < 10 {
         return put_byte(text, end, last_digit(n));
@@ -47,7 +49,7 @@ pub fn put_natural(text: &mut [u8], end: usize, n: u64) -> usize
 
 // The same of a signed number.
 pub fn put_integer(text: &mut [u8], end: usize, z: i64) -> usize
-    ensures { Text·text text.new result ≡ put (signed_decimal z) (Text·text text.old end) }
+    ensures { text_of text.new result ≡ put (signed_decimal z) (text_of text.old end) }
 {
     if z < 0 {
         let next = put_byte(text, end, b'-');

@@ -1,4 +1,6 @@
 // Where two pieces meet, exactly: by the segment test and the crossing of their lines.
+#![tactic(auto)]
+
 ghost use Rattle.std.specs.Prelude.{◌≡◌};
 ghost use Rattle.place.specs.Place.{along_of, where_of};
 

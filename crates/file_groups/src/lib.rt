@@ -1,14 +1,16 @@
 // A number of a chart file put in groups of seven bits, by its leading zeros.
+#![tactic(auto)]
+
 ghost use Rattle.std.specs.Prelude.{◌≡◌, ◌+◌, ◌≤◌, ◌<◌, ◌^◌, length};
 ghost use Rattle.std.proofs.lemmas.List.Edits.{sets};
 ghost use Rattle.chart_file.specs.Groups.{spelled};
-ghost use Rattle.chart_file.specs.Coordinate.{stored as Coordinate·stored};
+ghost use Rattle.chart_file.specs.Coordinate.{stored};
 ghost use Rattle.chart_file.specs.Format.{groups};
 ghost use Rattle.chart_writer.specs.Zeros.{groups_by};
 
 // What a coordinate is stored as.
 pub fn stored(v: i32) -> u32
-    ensures { result ≡ Coordinate·stored v }
+    ensures { result ≡ stored v }
 {
     if v < 0 {
         return 2 * ((-1 - v) as u32) + 1;

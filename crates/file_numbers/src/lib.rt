@@ -1,4 +1,6 @@
 // A number of a chart file at its place: the count, a kind or a coordinate, or why it is refused.
+#![tactic(auto)]
+
 ghost use Rattle.std.specs.Prelude.{◌≡◌};
 ghost use Rattle.chart_file.specs.Groups.{groups_at};
 ghost use Rattle.chart_file.specs.Coordinate.{signed_of};

@@ -1,7 +1,9 @@
 // The chart file's reader: bytes from anywhere become a list of numbers, or a number and a place that say why not.
+#![tactic(auto)]
+
 ghost use Rattle.std.specs.Prelude.{◌≡◌, ◌*◌, ◌≤◌, ◌<◌, ◌++◌, length, take, drop};
 ghost use Rattle.chart_file.specs.Reading.{Left, Reads};
-ghost use Rattle.chart_file.specs.Reading.{pieces as Reading·pieces};
+ghost use Rattle.chart_file.specs.Reading.{pieces as pieces_from};
 ghost use Rattle.charts.specs.Chart.{most, fault_at};
 
 use chart_file::{Groups, NUMBERS, Number, Stop};
@@ -25,7 +27,7 @@ fn fault_at(list: &[i32; NUMBERS], p: usize) -> u8
 // Reads pieces, which follow the count from its `next` place on, into `list`.
 fn pieces(file: &[u8], next: usize, count: usize, list: &mut [i32; NUMBERS]) -> Stop
     requires { (count ≤ most) × (length list.old ≡ 5 * most) }
-    ensures { Left count (Reading·pieces file.now next count) result list.new }
+    ensures { Left count (pieces_from file.now next count) result list.new }
 {
     let mut at = next;
     let mut fault: u8 = 0;

@@ -1,4 +1,6 @@
 // The chart file's writer: a list of numbers goes out as the file that the reader takes it from.
+#![tactic(auto)]
+
 ghost use Rattle.std.specs.Prelude.{◌≡◌, ◌+◌, ◌*◌, ◌≤◌, length};
 ghost use Rattle.std.proofs.lemmas.List.Edits.{sets};
 ghost use Rattle.chart_file.specs.Format.{bytes_from};

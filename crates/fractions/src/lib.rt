@@ -1,5 +1,6 @@
 // Fractions and points of the chart, and their exact order. What these mean and their laws stand here; the code is in
 // whole_parts, comparison and lowest_terms.
+#![tactic(auto)]
 
 // Which of two is less.
 #[derive(Drop)]

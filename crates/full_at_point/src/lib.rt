@@ -1,4 +1,6 @@
 // The step of the new mode at a point that is known, an end or a crossing: its block is found, and the step done.
+#![tactic(auto)]
+
 ghost use Rattle.std.specs.Prelude.{◌≡◌, [], ◌<◌, ◌^◌};
 ghost use Rattle.full_ends.specs.Demand.{standing};
 ghost use Rattle.full_lanes.specs.Lanes.{meeting_at};

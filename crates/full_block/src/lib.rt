@@ -1,5 +1,7 @@
 // Which of the active pieces lie below a point, and which go through it. Along the list come those below, then those
 // through, then those above: so the first are told apart by bisection, and the second stand beside each other.
+#![tactic(auto)]
+
 ghost use Rattle.std.specs.Prelude.{◌≡◌, ℕ, ◌≤◌, length};
 ghost use Rattle.fractions.specs.declared.Point.{Point};
 ghost use Rattle.full_points.specs.Spot.{Fair, Marks};

@@ -1,5 +1,7 @@
 // One end alone at a point, as mostly: its piece comes in where no other goes through, or goes out, and then no pair is listed
 // and nothing is put in order.
+#![tactic(auto)]
+
 ghost use Rattle.std.specs.Prelude.{◌≡◌, [], ◌∷◌, ℕ, ◌+◌, ◌≤◌, length};
 ghost use Rattle.full_points.specs.Spot.{Fair, Marks};
 ghost use Rattle.full_end_alone.specs.Alone.{Told, Settleable, Settled};

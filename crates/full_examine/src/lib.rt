@@ -1,4 +1,6 @@
 // A place of the active list examined: the key of its crossing with the next, where one lies ahead.
+#![tactic(auto)]
+
 ghost use Rattle.std.specs.Prelude.{◌≡◌, cond, ◌<◌, ◌≤◌, length, set};
 ghost use Rattle.fractions.specs.Point.{point_order};
 ghost use Rattle.sweep.specs.Ported.{is_less};

@@ -1,5 +1,7 @@
 // The two halves of a step of the new mode at a point: its new pairs are listed, and its block is renewed in place. The block
 // stands from lo up to hi in the active list; `ends` are the keys of the ends at the point.
+#![tactic(auto)]
+
 ghost use Rattle.sweep.specs.Lists.{keep, pairs};
 ghost use Rattle.full_points.specs.Spot.{Fair, Marks};
 ghost use Rattle.full_list.specs.Listed.{fresh_in, Roomy, Listed};

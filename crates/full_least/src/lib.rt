@@ -1,4 +1,6 @@
 // The least of the lanes, by key, and exactly where two keys are equal.
+#![tactic(auto)]
+
 ghost use Rattle.std.specs.Prelude.{◌≡◌, ◌+◌, ◌<◌, ◌≤◌, length};
 ghost use Rattle.fractions.specs.Point.{point_order, whole_of};
 ghost use Rattle.sweep.specs.Lists.{lesser_first};

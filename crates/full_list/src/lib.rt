@@ -1,5 +1,7 @@
 // The pairs that the new mode lists at a point, written behind those listed before. No pair is marked: a crossing is at this
 // point and nowhere else, and an overlap is new where one of its two pieces starts.
+#![tactic(auto)]
+
 ghost use Rattle.std.specs.Prelude.{◌≡◌, [], ◌∷◌, ◌++◌, ℕ, ◌+◌, ◌≤◌, ◌<◌, length, get_or, take};
 ghost use Rattle.std.proofs.Math.Seq.{slice};
 ghost use Rattle.fractions.specs.declared.Point.{Point};

@@ -1,4 +1,6 @@
 // A run of the new mode, below its call in full_sweep: from the first step until the budget is spent or all ends are passed.
+#![tactic(auto)]
+
 ghost use Rattle.std.specs.Prelude.{ℕ};
 ghost use Rattle.full_step.specs.Carried.{Given};
 ghost use Rattle.full_run.specs.Running.{Begun, Stopped};

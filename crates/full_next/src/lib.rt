@@ -1,4 +1,6 @@
 // The next point of the new mode: the next end, or the least crossing ahead where that comes first.
+#![tactic(auto)]
+
 ghost use Rattle.std.specs.Prelude.{◌<◌, ◌^◌};
 ghost use Rattle.full_lanes.specs.Lanes.{Keyed};
 ghost use Rattle.full_next.specs.Next.{Next};

@@ -1,4 +1,6 @@
 // The two outer pairs of a block examined; and the step of the new mode where the block is two that cross: they change places.
+#![tactic(auto)]
+
 ghost use Rattle.std.specs.Prelude.{◌≡◌, ◌+◌, ◌≤◌, length};
 ghost use Rattle.full_lanes.specs.Lanes.{ProperPlaces};
 ghost use Rattle.full_step.specs.Whole.{outer_examined};

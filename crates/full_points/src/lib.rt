@@ -1,13 +1,15 @@
 // A point by the whole parts of its coordinates and what is left of them: so the side on which it lies of a piece needs no
 // product that outgrows 64 bits, and two points that are not close are told apart by one number.
+#![tactic(auto)]
+
 ghost use Rattle.std.specs.Prelude.{◌≡◌, ℕ, ◌+◌, ◌*◌, ◌<◌, ◌^◌, ℤ, pos, ◌+ℤ◌, ◌-ℤ◌, ◌*ℤ◌};
 ghost use Rattle.integers.specs.Size.{Small};
 ghost use Rattle.fractions.specs.Order.{order};
 ghost use Rattle.fractions.specs.Point.{point_order, whole_of};
 ghost use Rattle.fractions.specs.declared.Point.{Point as APoint};
-ghost use Rattle.line_segment.specs.Geometry.{run as run_of, rise as riseOf};
+ghost use Rattle.line_segment.specs.Geometry.{run as run_of, rise as rise_of};
 ghost use Rattle.sweep.specs.Ported.{is_equal};
-ghost use Rattle.full_order.specs.Finer.{aside as asideOf};
+ghost use Rattle.full_order.specs.Finer.{aside as aside_of};
 ghost use Rattle.full_points.specs.Spot.{Charted, ChartPoint, Fair, Marks, whole_side, key_of};
 
 use fractions::{Order, Point};
@@ -110,7 +112,7 @@ fn whole_side(s: LineSegment, wx: u64, wy: u64) -> i64
 // The side, where the whole parts are near the line.
 fn near_side(s: LineSegment, f: i64, rx: u64, ry: u64, d: u64) -> i64
     requires { Small 131072 f × (rx < 2 ^ 33) × (ry < 2 ^ 33) × (d < 2 ^ 33) }
-    ensures { result ≡ f *ℤ pos d +ℤ (run_of s *ℤ pos ry -ℤ riseOf s *ℤ pos rx) }
+    ensures { result ≡ f *ℤ pos d +ℤ (run_of s *ℤ pos ry -ℤ rise_of s *ℤ pos rx) }
 {
     f * d as i64 + (run(s) * ry as i64 - rise(s) * rx as i64)
 }
@@ -130,7 +132,7 @@ fn sign(g: i64) -> Order
 // Where the point lies of a piece: Less below it, Greater above it. Far from the line the whole parts decide.
 pub fn aside(s: LineSegment, p: Spot) -> Order
     requires { Fair p }
-    ensures { (q : APoint) → Marks p q → result ≡ asideOf q s }
+    ensures { (q : APoint) → Marks p q → result ≡ aside_of q s }
 {
     let f = whole_side(s, p.wx, p.wy);
     if FAR < f {

@@ -1,5 +1,7 @@
 // The block's new pieces written in its place, and what stands behind it moved along; beside each place its lane, the key of
 // the crossing ahead of the piece there with the next one.
+#![tactic(auto)]
+
 ghost use Rattle.std.specs.Prelude.{◌≡◌, [], ◌∷◌, ◌+◌, ◌-◌, ◌≤◌, ◌<◌, length, get_or, drop, replicate};
 ghost use Rattle.std.proofs.Math.Seq.{paste};
 ghost use Rattle.full_active.specs.Replaced.{Movable, Replaced};

@@ -1,4 +1,6 @@
 // What a run of the new mode tells where it stops, its last point among it. The run is in full_loop.
+#![tactic(auto)]
+
 ghost use Rattle.std.specs.Prelude.{◌≡◌};
 ghost use Rattle.full_run.specs.Running.{last_at};
 

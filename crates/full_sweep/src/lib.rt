@@ -1,4 +1,6 @@
 // The sweep that loses nothing on any chart, upright pieces or not: a point a step, the active list changed in place.
+#![tactic(auto)]
+
 ghost use Rattle.std.specs.Prelude.{◌≡◌, ◌≤◌, length};
 ghost use Rattle.charts.specs.Chart.{verdict_of};
 ghost use Rattle.charts.specs.Answer.{room};

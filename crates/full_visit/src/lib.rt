@@ -1,4 +1,6 @@
 // A visit of the next point of the new mode: the next end or the least crossing ahead, and the step done there.
+#![tactic(auto)]
+
 ghost use Rattle.full_visit.specs.Visit.{Waiting, Visiting};
 
 use fractions::Point;

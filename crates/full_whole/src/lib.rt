@@ -1,4 +1,6 @@
 // The whole step of the new mode at a point: both halves, then the two outer pairs of the block examined; or the short way.
+#![tactic(auto)]
+
 ghost use Rattle.full_points.specs.Spot.{Marks};
 ghost use Rattle.full_step.specs.Halves.{new_block};
 ghost use Rattle.full_step.specs.Whole.{Steppable, Stepped};

@@ -1,4 +1,6 @@
 // How a half-line meets a piece, after `HalfLineSoS` of the Rust's line.rs: its names, and its cases in its order.
+#![tactic(auto)]
+
 ghost use Rattle.std.specs.Prelude.{◌≡◌};
 ghost use Rattle.charts.specs.Fault.{fault_of};
 ghost use Rattle.half_line.specs.Call.{corner_at, fault_then, half_line_answer_of};

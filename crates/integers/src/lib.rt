@@ -1,3 +1,5 @@
+#![tactic(auto)]
+
 ghost use Rattle.std.specs.Prelude.{◌≡◌, nat_abs};
 
 // The size of a number, without its sign: at the least i64 too, whose size no i64 holds.

@@ -1,4 +1,6 @@
 // The folded line drawn: the pieces of m times x, folded at 0 and H, from x = 0 to S.
+#![tactic(auto)]
+
 ghost use Rattle.folded_line.specs.Drawing.{Draws};
 
 use charts::{Answer, Verdict};

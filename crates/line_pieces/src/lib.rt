@@ -1,14 +1,16 @@
 // The pieces of a folded line, written from left to right.
+#![tactic(auto)]
+
 ghost use Rattle.std.specs.Prelude.{◌≡◌, ◌+◌, ◌*◌, ◌≤◌, ◌<◌, pos, length};
 ghost use Rattle.std.proofs.lemmas.List.Edits.{sets};
-ghost use Rattle.folded_line.specs.Folded.{folded as foldedOf};
-ghost use Rattle.folded_line.specs.Line.{joint as jointOf, kind_of, end_at, five, fives};
+ghost use Rattle.folded_line.specs.Folded.{folded as folded_of};
+ghost use Rattle.folded_line.specs.Line.{joint as joint_of, kind_of, end_at, five, fives};
 ghost use Rattle.folded_line.specs.Drawing.{most_order, limit, most_pieces, Sized};
 
 // How far v lies from the nearest even multiple of h.
 fn folded(h: usize, v: usize) -> usize
     requires { (0 < h) × (h ≤ limit) }
-    ensures { result ≡ foldedOf h v }
+    ensures { result ≡ folded_of h v }
 {
     let r = v % (2 * h);
     if h < r { 2 * h - r } else { r }
@@ -17,7 +19,7 @@ fn folded(h: usize, v: usize) -> usize
 // Where the line folds for the j-th time, or S where that comes first.
 fn joint(m: usize, h: usize, s: usize, j: usize) -> usize
     requires { Sized m h s × (j ≤ most_pieces) }
-    ensures { result ≡ jointOf m h s j }
+    ensures { result ≡ joint_of m h s j }
 {
     let x = j * h / m;
     if s < x { s } else { x }

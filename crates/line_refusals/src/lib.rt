@@ -1,4 +1,6 @@
 // What a folded line is refused for.
+#![tactic(auto)]
+
 ghost use Rattle.std.specs.Prelude.{◌≡◌};
 ghost use Rattle.folded_line.specs.Drawing.{off, off_range, uneven, line_verdict, drawing_of, Sized};
 

@@ -1,5 +1,6 @@
 // What a piece of a chart is and how two can meet, after the Rust's line_segment.rs. What these mean and the laws of the
 // test stand here; the code is in segment_test, segment_crossing and segment_holds.
+#![tactic(auto)]
 
 // An end of a piece: its point, and whether the piece has that point.
 #[derive(Drop)]

@@ -1,1 +1,2 @@
 // No code: the lines of a listing.
+#![tactic(auto)]

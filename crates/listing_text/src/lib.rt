@@ -1,8 +1,10 @@
 // The listing of a chart file, as text in lent bytes.
+#![tactic(auto)]
+
 ghost use Rattle.std.specs.Prelude.{◌≡◌, ◌/◌, length};
 ghost use Rattle.charts.specs.Chart.{verdict_of};
 ghost use Rattle.charts.specs.declared.Verdict.TheVariants.{Accepted};
-ghost use Rattle.decimals.specs.Text.{text as Text·text, put};
+ghost use Rattle.decimals.specs.Text.{text as text_of, put};
 ghost use Rattle.listing.specs.Listing.{chart_text, listing_of, listing_answer, lent_after};
 
 use charts::{Answer, MOST};
@@ -16,7 +18,7 @@ pub const LONGEST: usize = 10 + 13 + PAIRS / 2 * 47 + 17;
 // The text of an accepted list, swept to its end in the new mode.
 fn put_chart(list: &[i32], text: &mut [u8]) -> usize
     requires { verdict_of list.now ≡ Accepted (length list.now / 5) }
-    ensures { Text·text text.new result ≡ put (chart_text list.now (length list.now / 5)) (Text·text text.old 0) }
+    ensures { text_of text.new result ≡ put (chart_text list.now (length list.now / 5)) (text_of text.old 0) }
 {
     let mut pairs = [0u8; PAIRS];
     let swept = full_sweep::sweep(list, u32::MAX, &mut pairs);
@@ -30,7 +32,7 @@ fn put_chart(list: &[i32], text: &mut [u8]) -> usize
 
 // The text of a file, from the start of the bytes on; where it ends.
 fn put_file(file: &[u8], text: &mut [u8]) -> usize
-    ensures { Text·text text.new result ≡ put (listing_of file.now) (Text·text text.old 0) }
+    ensures { text_of text.new result ≡ put (listing_of file.now) (text_of text.old 0) }
 {
     let mut list = [0i32; chart_file::NUMBERS];
     let read = file_reader::read(file, &mut list);

@@ -1,4 +1,6 @@
 // Points of the chart in lowest terms. Every public function takes every value of its types.
+#![tactic(auto)]
+
 ghost use Rattle.std.specs.Prelude.{◌≡◌, ◌<◌, pos};
 ghost use Rattle.std.specs.Int.Signed.{quot_z};
 ghost use Rattle.fractions.specs.Divisor.{gcd_of};

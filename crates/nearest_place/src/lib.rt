@@ -1,4 +1,6 @@
 // The place of a meeting in binary64: each number of the exact place rounded once, to the nearest.
+#![tactic(auto)]
+
 ghost use Rattle.std.specs.Prelude.{◌≡◌, ◌<◌, ◌≤◌, ◌^◌, nat_abs};
 ghost use Rattle.place.specs.Binary64.{nearest};
 ghost use Rattle.place.specs.Pair.{place_answer_of};

@@ -1,4 +1,6 @@
 // The calls that change an open chart: made empty, a piece added at the lowest free place, a piece dropped.
+#![tactic(auto)]
+
 ghost use Rattle.std.specs.Prelude.{◌≡◌, ◌<◌, ◌≤◌, length};
 ghost use Rattle.open_chart.specs.Memory.{places, memory, five, is_used, lowest_free, written};
 ghost use Rattle.open_chart.specs.Changes.{done_with, refused_with, changed_of, adding, dropping, after_adding, after_dropping, emptying_of, after_emptying};

@@ -1,5 +1,6 @@
 // A chart that stays open: 200 places in lent memory, five numbers each. Whatever stands in the memory, a place whose five
 // numbers are a piece is used, and any other is free.
+#![tactic(auto)]
 
 // So many places has an open chart: no more than a list may have pieces.
 pub const PLACES: usize = 200;

@@ -1,4 +1,6 @@
 // The calls that tell of an open chart: how many pieces stand on it, and which of them meet.
+#![tactic(auto)]
+
 ghost use Rattle.std.specs.Prelude.{◌≡◌, ℕ, ◌<◌, ◌≤◌, length, get_or};
 ghost use Rattle.charts.specs.Answer.{room};
 ghost use Rattle.open_chart.specs.Memory.{places, memory};

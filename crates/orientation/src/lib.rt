@@ -1,4 +1,6 @@
 // Which way three points turn: the sign of a determinant that i64 holds for every i16.
+#![tactic(auto)]
+
 ghost use Rattle.std.specs.Prelude.{◌≡◌, ◌-ℤ◌};
 ghost use Rattle.orientation.specs.Turn.{det, turn_of, reversed, is_left, is_right, is_straight, same_turn};
 

@@ -1,4 +1,6 @@
 // A region's outline given as a list of numbers, two a corner: x, y. Here outlines are judged and their sides made.
+#![tactic(auto)]
+
 ghost use Rattle.std.specs.Prelude.{◌≡◌, ◌<◌};
 ghost use Rattle.charts.specs.Piece.{coordinate_of};
 ghost use Rattle.outline.specs.Counting.{first};

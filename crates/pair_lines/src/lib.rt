@@ -1,6 +1,8 @@
 // The lines of pairs, each put at the end of a text; where the text ends then.
+#![tactic(auto)]
+
 ghost use Rattle.std.specs.Prelude.{◌≡◌};
-ghost use Rattle.decimals.specs.Text.{text as Text·text, put};
+ghost use Rattle.decimals.specs.Text.{text as text_of, put};
 ghost use Rattle.charts.specs.Piece.{piece_at};
 ghost use Rattle.place.specs.Place.{where_of};
 ghost use Rattle.listing_lines.specs.Lines.{pair_line, pairs_in, pair_lines};
@@ -9,7 +11,7 @@ use chart_pieces::piece_at;
 
 // The line of pieces a and b of a list.
 fn put_pair(list: &[i32], text: &mut [u8], end: usize, a: u8, b: u8) -> usize
-    ensures { Text·text text.new result ≡ put (pair_line (where_of (piece_at list.now a) (piece_at list.now b)) a b) (Text·text text.old end) }
+    ensures { text_of text.new result ≡ put (pair_line (where_of (piece_at list.now a) (piece_at list.now b)) a b) (text_of text.old end) }
 {
     let i = a as usize;
     let j = b as usize;
@@ -24,7 +26,7 @@ fn put_pair(list: &[i32], text: &mut [u8], end: usize, a: u8, b: u8) -> usize
 
 // The lines of pairs of pieces, two bytes a pair, in their order.
 pub fn put_pairs(list: &[i32], pairs: &[u8], text: &mut [u8], end: usize) -> usize
-    ensures { Text·text text.new result ≡ put (pair_lines list.now (pairs_in pairs.now)) (Text·text text.old end) }
+    ensures { text_of text.new result ≡ put (pair_lines list.now (pairs_in pairs.now)) (text_of text.old end) }
 {
     let count = pairs.len() / 2;
     let mut next = end;

@@ -1,6 +1,8 @@
 // A part of a chart file's listing, put into lent bytes that hold no more than it.
+#![tactic(auto)]
+
 ghost use Rattle.std.specs.Prelude.{◌≡◌, ◌*◌, take, drop};
-ghost use Rattle.decimals.specs.Text.{text as Text·text, put};
+ghost use Rattle.decimals.specs.Text.{text as text_of, put};
 ghost use Rattle.listing_lines.specs.Lines.{pairs_in, pair_lines};
 ghost use Rattle.listing_parts.specs.Parts.{part_bytes, parts_of, head_of, foot_of, part_of};
 
@@ -16,7 +18,7 @@ pub fn parts_of(bytes: usize) -> usize
 
 // The two lines that only the first part begins with; where they end.
 fn put_head(list: &[i32], complete: bool, part: usize, text: &mut [u8]) -> usize
-    ensures { Text·text text.new result ≡ put (head_of list.now complete part) (Text·text text.old 0) }
+    ensures { text_of text.new result ≡ put (head_of list.now complete part) (text_of text.old 0) }
 {
     if part != 0 {
         return 0;
@@ -28,7 +30,7 @@ fn put_head(list: &[i32], complete: bool, part: usize, text: &mut [u8]) -> usize
 
 // The lines of a part's pairs, which the last part has fewer of than the others.
 fn put_lines(list: &[i32], pairs: &[u8], part: usize, text: &mut [u8], end: usize) -> usize
-    ensures { Text·text text.new result ≡ put (pair_lines list.now (pairs_in (take part_bytes (drop (part_bytes * part) pairs.now)))) (Text·text text.old end) }
+    ensures { text_of text.new result ≡ put (pair_lines list.now (pairs_in (take part_bytes (drop (part_bytes * part) pairs.now)))) (text_of text.old end) }
 {
     let last = pairs.len() / BYTES;
     if last < part {
@@ -44,7 +46,7 @@ fn put_lines(list: &[i32], pairs: &[u8], part: usize, text: &mut [u8], end: usiz
 
 // The line that only the last part ends with.
 fn put_foot(steps: u32, bytes: usize, part: usize, text: &mut [u8], end: usize) -> usize
-    ensures { Text·text text.new result ≡ put (foot_of steps bytes part) (Text·text text.old end) }
+    ensures { text_of text.new result ≡ put (foot_of steps bytes part) (text_of text.old end) }
 {
     if part != bytes / BYTES {
         return end;
@@ -62,7 +64,7 @@ pub fn put_part(
     part: usize,
     text: &mut [u8],
 ) -> usize
-    ensures { Text·text text.new result ≡ put (part_of number list.now swept pairs.now part) (Text·text text.old 0) }
+    ensures { text_of text.new result ≡ put (part_of number list.now swept pairs.now part) (text_of text.old 0) }
 {
     if number != 0 {
         return count_lines::put_count(text, 0, b"refused ", number as u64);

@@ -1,4 +1,6 @@
 // Whether a peak is inside a region: on a side, or else by how many sides the half-line to the right of it meets.
+#![tactic(auto)]
+
 ghost use Rattle.std.specs.Prelude.{◌≡◌, cond, ltb, pos, ◌<ℤ◌};
 ghost use Rattle.outline.specs.Counting.{first, count};
 ghost use Rattle.region.specs.Region.{right_of, counted, on_side, met_side, parity, region_of, region_answer_of};

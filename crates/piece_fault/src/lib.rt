@@ -1,4 +1,6 @@
 // The first fault of a piece, by its five numbers: kind, x1, y1, x2, y2. Every function takes every number.
+#![tactic(auto)]
+
 ghost use Rattle.std.specs.Prelude.{◌≡◌};
 ghost use Rattle.charts.specs.Fault.{outside, off_range, eq_z, same_ends, fault_of};
 

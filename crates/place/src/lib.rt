@@ -1,4 +1,6 @@
 // The place of a meeting: nothing, at a point, or along from one point to another. No function stands here.
+#![tactic(auto)]
+
 use fractions::Point;
 
 // A point in binary64.

@@ -1,6 +1,8 @@
 // Where two pieces meet, as a pair's line tells it, put at the end of a text; where the text ends then.
+#![tactic(auto)]
+
 ghost use Rattle.std.specs.Prelude.{◌≡◌};
-ghost use Rattle.decimals.specs.Text.{text as Text·text, put};
+ghost use Rattle.decimals.specs.Text.{text as text_of, put};
 ghost use Rattle.listing_lines.specs.Lines.{number_text, point_text, end_text, place_text};
 
 use fractions::Point;
@@ -8,7 +10,7 @@ use place::Where;
 
 // A space and a number.
 fn put_number(text: &mut [u8], end: usize, z: i64) -> usize
-    ensures { Text·text text.new result ≡ put (number_text z) (Text·text text.old end) }
+    ensures { text_of text.new result ≡ put (number_text z) (text_of text.old end) }
 {
     let spaced = decimals::put_byte(text, end, b' ');
     decimals::put_integer(text, spaced, z)
@@ -16,7 +18,7 @@ fn put_number(text: &mut [u8], end: usize, z: i64) -> usize
 
 // The whole units between which a point's speed lies, and then its frequency.
 fn put_point(text: &mut [u8], end: usize, p: Point) -> usize
-    ensures { Text·text text.new result ≡ put (point_text p) (Text·text text.old end) }
+    ensures { text_of text.new result ≡ put (point_text p) (text_of text.old end) }
 {
     let speed = units::units_of(p.x, p.d);
     let frequency = units::units_of(p.y, p.d);
@@ -28,7 +30,7 @@ fn put_point(text: &mut [u8], end: usize, p: Point) -> usize
 
 // An end of an overlap, which is whole.
 fn put_end(text: &mut [u8], end: usize, p: Point) -> usize
-    ensures { Text·text text.new result ≡ put (end_text p) (Text·text text.old end) }
+    ensures { text_of text.new result ≡ put (end_text p) (text_of text.old end) }
 {
     let x = units::units_of(p.x, p.d);
     let y = units::units_of(p.y, p.d);
@@ -38,7 +40,7 @@ fn put_end(text: &mut [u8], end: usize, p: Point) -> usize
 
 // Where two pieces meet.
 pub fn put_place(text: &mut [u8], end: usize, w: Where) -> usize
-    ensures { Text·text text.new result ≡ put (place_text w) (Text·text text.old end) }
+    ensures { text_of text.new result ≡ put (place_text w) (text_of text.old end) }
 {
     match w {
         Where::Nothing => end,

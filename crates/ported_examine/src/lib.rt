@@ -1,5 +1,7 @@
 // "Examining skips a listed or waiting pair. An Overlap is listed. A Crossing at or before p is listed, one after p is
 // queued and waits."
+#![tactic(auto)]
+
 ghost use Rattle.std.specs.Prelude.{◌≤◌, length, take};
 ghost use Rattle.ported_pieces.specs.Table.{chart_in};
 ghost use Rattle.sweep.specs.Lists.{adjacent, lesser_first};

@@ -1,5 +1,7 @@
 // Which of two pieces is the higher at a point's x, and which the steeper, after the Rust's compare_segments. No height
 // is worked out: two lines change places where they meet, so the point's x is compared with the x of that place.
+#![tactic(auto)]
+
 ghost use Rattle.std.specs.Prelude.{◌≡◌};
 ghost use Rattle.fractions.specs.Order.{turned};
 ghost use Rattle.sweep.specs.Ported.{height_order, slope_order};

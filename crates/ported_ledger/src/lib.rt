@@ -1,4 +1,6 @@
 // One mark for each pair, and the list of pairs in lent bytes.
+#![tactic(auto)]
+
 ghost use Rattle.std.specs.Prelude.{◌≡◌, ℕ, ◌≤◌, length, set, get_or, List};
 ghost use Rattle.ported_pieces.specs.Table.{chart_in};
 ghost use Rattle.ported_arrays.specs.Numbers.{cell};

@@ -1,4 +1,6 @@
 // A run of the ported sweep, below its call in bentley_ottmann: from the first step until the budget or the queue is empty.
+#![tactic(auto)]
+
 ghost use Rattle.std.specs.Prelude.{ℕ, ◌≤◌, ◌<◌, length};
 ghost use Rattle.line_segment.specs.Piece.{HasLength};
 ghost use Rattle.charts.specs.Chart.{most};

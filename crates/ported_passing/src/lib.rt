@@ -1,5 +1,7 @@
 // The front of the queue that is at the point visited: its ends and the pairs that cross there are passed, and their
 // pieces flagged as starting, finishing or turning.
+#![tactic(auto)]
+
 ghost use Rattle.std.specs.Prelude.{◌≡◌, [], ◌∷◌, not, ℕ, ◌≤◌, length, set};
 ghost use Rattle.ported_pieces.specs.Table.{chart_in};
 ghost use Rattle.sweep.specs.Lists.{keep};

@@ -1,6 +1,8 @@
 // The pieces of a chart as the sweep asks for them, by number, after the Rust's Segment. They stand in one array, five
 // numbers a piece: min's x and y, max's x and y, and the marks of both. Past its end every number is 0.
 // End 2i is the min of piece i, end 2i + 1 its max; pair MOST * i + j is that of pieces i and j.
+#![tactic(auto)]
+
 ghost use Rattle.std.specs.Prelude.{◌≡◌, ℕ, ◌+◌, ◌*◌, ◌/◌, ◌%◌};
 ghost use Rattle.fractions.specs.Point.{point_order};
 ghost use Rattle.line_segment.specs.Segment.{intersect_of, contains_of};

@@ -1,4 +1,6 @@
 // "Each pair (i, j), i < j, in order, that is not yet listed and passes the test (i asking) is listed."
+#![tactic(auto)]
+
 ghost use Rattle.std.specs.Prelude.{◌≡◌, ℕ, ◌+◌, ◌≤◌, ◌<◌, length, drop, get_or, List, map};
 ghost use Rattle.ported_pieces.specs.Table.{chart_in};
 ghost use Rattle.sweep.specs.Lists.{pairs};

@@ -1,5 +1,7 @@
 // What a run of the ported sweep tells where it stops: its last point, whether the queue is empty, and the count of what was
 // examined. The run is in ported_loop.
+#![tactic(auto)]
+
 ghost use Rattle.std.specs.Prelude.{◌≡◌, ℕ, ◌+◌, ◌-◌, ◌≤◌, ◌<◌, ◌^◌, drop};
 ghost use Rattle.charts.specs.Chart.{most};
 ghost use Rattle.sweep.specs.Run.{is_none};

@@ -1,4 +1,6 @@
 // One visit of the sweep, after the Rust's bentley_ottmann.rs: a step at the least point that is left.
+#![tactic(auto)]
+
 ghost use Rattle.std.specs.Prelude.{◌≤◌, length};
 ghost use Rattle.ported_step.specs.Turns.{Turning, Fits, Stepping};
 

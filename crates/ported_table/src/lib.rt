@@ -1,4 +1,6 @@
 // The array of a chart's pieces, from its list of numbers.
+#![tactic(auto)]
+
 ghost use Rattle.std.specs.Prelude.{◌≡◌, ◌≤◌, ◌<◌, pos, set};
 ghost use Rattle.charts.specs.Chart.{most};
 ghost use Rattle.ported_table.specs.Filled.{marks_of, written, filled};

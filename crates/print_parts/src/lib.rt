@@ -1,4 +1,6 @@
 // The listing of a chart file printed in parts: what the chart program prints.
+#![tactic(auto)]
+
 ghost use Rattle.std.specs.Prelude.{◌≤◌, length};
 ghost use Rattle.listing_parts.specs.Parts.{part_of};
 ghost use Rattle.listing_parts.specs.Demand.{ReadList};

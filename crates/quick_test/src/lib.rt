@@ -1,5 +1,7 @@
 // Whether two pieces meet, most often by the sides on which their ends lie, and by the test of two pieces where those do
 // not tell.
+#![tactic(auto)]
+
 ghost use Rattle.std.specs.Prelude.{◌≡◌};
 ghost use Rattle.line_segment.specs.Piece.{point_of, HasLength};
 ghost use Rattle.line_segment.specs.Geometry.{side};

@@ -1,5 +1,7 @@
 // Where a peak lies to a region: what it means, and what is promised of it. No function stands here.
 // Where a peak lies to a region; none where the region is refused.
+#![tactic(auto)]
+
 #[derive(Drop)]
 pub enum Region {
     None,

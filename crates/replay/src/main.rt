@@ -1,5 +1,7 @@
 // Replays recorded files. A record on standard input is a letter that says what is asked, the length of a chart file, two
 // bytes, low first, and its bytes; what the library answers is written as the Rust's answers were (tests/recorded/README.md).
+#![tactic(auto)]
+
 mod meeting;
 mod pairs;
 mod places;

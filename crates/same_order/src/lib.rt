@@ -1,1 +1,2 @@
 // No code: that the list in plain order is that of a full sweep stands in specs/ and proofs/.
+#![tactic(auto)]

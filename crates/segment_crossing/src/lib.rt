@@ -1,9 +1,11 @@
 // Where the lines of two pieces cross, by Cramer's rule. Coordinates are i16, so every public function takes every value
 // of its types.
+#![tactic(auto)]
+
 ghost use Rattle.std.specs.Prelude.{◌≡◌, ◌^◌, ◌-ℤ◌, ◌*ℤ◌};
 ghost use Rattle.integers.specs.Size.{Small};
-ghost use Rattle.line_segment.specs.Geometry.{run as run_of, rise as riseOf};
-ghost use Rattle.line_segment.specs.Segment.{moment as momentOf, over as over_of, cramer_of, crossing_of};
+ghost use Rattle.line_segment.specs.Geometry.{run as run_of, rise as rise_of};
+ghost use Rattle.line_segment.specs.Segment.{moment as moment_of, over as over_of, cramer_of, crossing_of};
 
 use fractions::Point;
 use line_segment::LineSegment;
@@ -19,7 +21,7 @@ pub fn run(s: LineSegment) -> i64
 
 // From end to end along y.
 pub fn rise(s: LineSegment) -> i64
-    ensures { (result ≡ riseOf s) × Small (2 ^ 16) result }
+    ensures { (result ≡ rise_of s) × Small (2 ^ 16) result }
 {
     let from = s.min;
     let to = s.max;
@@ -28,7 +30,7 @@ pub fn rise(s: LineSegment) -> i64
 
 // The line of a piece is rise * x - run * y = moment.
 fn moment(s: LineSegment) -> i64
-    ensures { (result ≡ momentOf s) × Small (2 ^ 31) result }
+    ensures { (result ≡ moment_of s) × Small (2 ^ 31) result }
 {
     let from = s.min;
     let to = s.max;

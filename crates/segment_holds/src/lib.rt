@@ -1,4 +1,6 @@
 // Whether a piece has a point X/D, Y/D: it is on the line through the ends, and between them.
+#![tactic(auto)]
+
 ghost use Rattle.std.specs.Prelude.{◌≡◌, ◌<◌, ◌^◌, pos, nat_abs, ◌-ℤ◌, ◌*ℤ◌};
 ghost use Rattle.integers.specs.Size.{Small};
 ghost use Rattle.orientation.specs.Turn.{turn_of, is_straight};

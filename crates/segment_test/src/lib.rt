@@ -1,5 +1,7 @@
 // How two pieces meet, after the Rust's line_segment.rs: its names, and its cases in its order. Coordinates are i16, so
 // every function takes every value of its types.
+#![tactic(auto)]
+
 ghost use Rattle.std.specs.Prelude.{◌≡◌};
 ghost use Rattle.fractions.specs.Order.{order, and_then};
 ghost use Rattle.line_segment.specs.Piece.{point_of, end_order, join_of, piece_of};

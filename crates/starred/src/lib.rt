@@ -1,1 +1,2 @@
 // No code: the starred examples of docs/CHART.md and the upright gap, as tables over what the calls' contracts cite.
+#![tactic(auto)]

@@ -1,5 +1,7 @@
 // A supplier's list of pairs held to a chart: what is said of it. No function stands here.
 // What is said of a supplier's list.
+#![tactic(auto)]
+
 #[derive(Drop)]
 pub enum Checked {
     Accepted,

@@ -1,4 +1,6 @@
 // A supplier's list of pairs held to a chart: does it name each meeting pair once, and if not, where is it wrong.
+#![tactic(auto)]
+
 ghost use Rattle.std.specs.Prelude.{◌≡◌, ◌≤◌};
 ghost use Rattle.charts.specs.Chart.{most};
 ghost use Rattle.naive.specs.Decoded.{meets_in};

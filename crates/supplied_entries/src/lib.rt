@@ -1,4 +1,6 @@
 // The entries of a supplier's list, walked up to the first one at fault.
+#![tactic(auto)]
+
 ghost use Rattle.std.specs.Prelude.{◌≡◌, ◌≤◌};
 ghost use Rattle.charts.specs.Chart.{most};
 ghost use Rattle.naive.specs.Decoded.{meets_in};

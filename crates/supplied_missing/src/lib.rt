@@ -1,4 +1,6 @@
 // The first meeting pair that no entry of a supplier's list names.
+#![tactic(auto)]
+
 ghost use Rattle.std.specs.Prelude.{◌≡◌, ◌≤◌, ◌*◌, not, ◌&&◌, length};
 ghost use Rattle.line_segment.specs.Piece.{HasLength};
 ghost use Rattle.line_segment.specs.Segment.{intersect_of};

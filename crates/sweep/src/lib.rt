@@ -1,1 +1,2 @@
 // No code: the sweep's definitions stand in specs/, the proof of what is promised of it in proofs/.
+#![tactic(auto)]

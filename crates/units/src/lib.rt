@@ -1,4 +1,6 @@
 // The whole units between which a fraction of whole numbers lies.
+#![tactic(auto)]
+
 ghost use Rattle.std.specs.Prelude.{◌≡◌, ◌<◌};
 ghost use Rattle.units.specs.Units.{Divided, units_of};
 

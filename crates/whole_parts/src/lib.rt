@@ -1,5 +1,7 @@
 // Two fractions with pencil and paper: whole parts first, then the remainders turned over, until they differ or one is
 // zero. Everything under a line here is above 0.
+#![tactic(auto)]
+
 ghost use Rattle.std.specs.Prelude.{◌≡◌, ◌+◌, ◌*◌, ◌<◌, pos, neg_ℤ};
 ghost use Rattle.fractions.specs.Order.{order};
 ghost use Rattle.fractions.specs.Fraction.{ratio_order};

@@ -4,7 +4,7 @@ use mathlib.Core.Path.{◌≡◌, refl, sym, ◌∙◌}
 use Prim.Native.Nat.{◌*◌, ◌-◌, ◌/◌, ◌≤◌}
 use native.Mathlib.Omega.{arith}
 use lib.ListN.{length, drop}
-use Rattle.decimals.specs.Text.{text as Text-text, put}
+use Rattle.decimals.specs.Text.{text as text_of, put}
 use Rattle.listing_lines.specs.Lines.{pairs_in, pair_lines}
 use Rattle.listing_lines.proofs.Pairs.{line_next, lines_end}
 use Rattle.pair_lines.proofs.put_pairs.Statement.{statement}
@@ -12,7 +12,7 @@ use Rattle.pair_lines.proofs.put_pairs.Tie as tie
 
 abbrev invariant-loop : tie.invariant-loop
 invariant-loop list pairs text₀ end count next₀ k₀ text next k =
-    (k ≤ length pairs / 2) × (length text ≡ length text₀) × (put (pair_lines list (pairs_in (drop (2 * k) pairs))) (Text-text text next) ≡ put (pair_lines list (pairs_in pairs)) (Text-text text₀ end))
+    (k ≤ length pairs / 2) × (length text ≡ length text₀) × (put (pair_lines list (pairs_in (drop (2 * k) pairs))) (text_of text next) ≡ put (pair_lines list (pairs_in pairs)) (text_of text₀ end))
 
 abbrev decreases-loop : tie.decreases-loop
 decreases-loop list pairs text₀ end count next₀ k₀ text next k = length pairs / 2 - k
