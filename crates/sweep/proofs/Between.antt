@@ -102,7 +102,7 @@ module _ (C : Chart) (F : Ranked C) where
     quiet : (f i j : ℕ) → i < n → j < n → i ≢ j → test i j ≡ crosses → key (crossing i j) < f → bound key last ≤ key (crossing i j) → key (crossing i j) < z → ⊥
     quiet zero i j hi hj ne k hf hb hz = omega arith
     quiet (suc f) i j hi hj ne k hf hb hz =
-        let on = F.Crossing-on i j hi hj ne k in
+        let on = F.crossing_on i j hi hj ne k in
         let oc = F.crossing_occurs i j hi hj ne k in
         let ui = under i (crossing i j) hi oc on.0 hb hz in
         let uj = under j (crossing i j) hj oc on.1 hb hz in

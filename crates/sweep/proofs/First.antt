@@ -82,7 +82,7 @@ module _ (C : Chart) where
         let h : q.0 < n = omega arith in
         let ne : q.0 ≢ q.1 = omega arith in
         ⊎_elim
-        (λ (k : kind C q ≡ crosses). rw (first_crosses q k) (F.Crossing-on q.0 q.1 h v.1 ne k))
+        (λ (k : kind C q ≡ crosses). rw (first_crosses q k) (F.crossing_on q.0 q.1 h v.1 ne k))
         (λ (k : kind C q ≡ overlaps). rw (first_overlaps q k) (F.overlap_on q.0 q.1 h v.1 ne k))
         (meets_two (kind C q) e)
 

@@ -21,7 +21,7 @@ module _ (C : Chart) where
   least_from_in : (p : Point) (l : List Point) → In (least_from C p l) (p ∷ l)
   unfolding least_from
   least_from_in p [] = here refl
-  least_from_in p (q ∷ l) = fix (less q p) (least_from_in _ l)
+  least_from_in p (q ∷ l) = fix (less q p) (least_from_in (cond (less q p) q p) l)
     where
       fix : {x : Point} (b : Bool) → In x (cond b q p ∷ l) → In x (p ∷ q ∷ l)
       fix true (here e) = there (here e)

@@ -35,7 +35,7 @@ module _ {A : Type 0} where
       (λ (e : f y ≡ false). let r = keep_out f l (rw (keep_no f y l e) at h) in (there r.0, r.1))
       (ask (f y))
 
-  pub keep_in : (f : A → Bool) {l : List A} {x : A} → In x l → f x ≡ true → In x (keep f l)
+  pub keep_in : (f : A → Bool) {x : A} {l : List A} → In x l → f x ≡ true → In x (keep f l)
   keep_in f {x = x} (here {x = y} {xs = l} q) e = rw (keep_yes f y l (rw q at e)) (here q)
   keep_in f {x = x} (there {x = y} {xs = l} m) e =
       ⊎_elim
@@ -83,7 +83,7 @@ module _ {A : Type 0} where
       let r = keep_fewer f l in
       ⊎_elim (λ (e : f x ≡ true). rw e (omega arith)) (λ (e : f x ≡ false). rw e (omega arith)) (ask (f x))
 
-  pub any_in : (f : A → Bool) {l : List A} {x : A} → In x l → f x ≡ true → any f l ≡ true
+  pub any_in : (f : A → Bool) {x : A} {l : List A} → In x l → f x ≡ true → any f l ≡ true
   unfolding any
   any_in f (here {x = y} {xs = l} q) e = or_left (f y) (any f l) (rw q at e)
   any_in f (there {x = y} {xs = l} m) e = or_right (f y) (any f l) (any_in f m e)

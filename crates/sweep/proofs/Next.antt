@@ -110,7 +110,7 @@ module _ (C : Chart) where
           let q = r.0 in
           let w = I.good.ahead q r.1 in
           let op : Occurs C p = next_soonest.occurs in
-          let o = F.Crossing-on q.0 q.1 (omega (arith, w.0)) w.0.1 (omega (arith, w.0)) w.1 in
+          let o = F.crossing_on q.0 q.1 (omega (arith, w.0)) w.0.1 (omega (arith, w.0)) w.1 in
           let oc : Occurs C (at C q) = at_occurs C q w.0 w.1 in
           let d : at C q ≡ p = F.keyed.key_inj (at C q) p oc op (same_true C F.keyed (at C q) p oc op r.2) in
           ⊎_elim

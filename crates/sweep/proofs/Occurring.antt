@@ -62,12 +62,12 @@ module _ (C : Chart) where
   pub adjacent_two : (P : ℕ → Type 0) (l : List ℕ) → ((i : ℕ) → In i l → (i < n) × P i) → Pairwise (λ i j. i ≢ j) l → (q : Pair) → In q (adjacent l) → Pieces C q × (P q.0 × P q.1)
   adjacent_two P l f d q m = let r = adjacent_out l m d in rw r.5 (two_pieces P r.0 r.1 (f r.0 r.2) (f r.1 r.3) r.4)
 
-  ends_min : {l : List ℕ} {i : ℕ} → In i l → In (min i) (ends C l)
+  ends_min : {i : ℕ} {l : List ℕ} → In i l → In (min i) (ends C l)
   unfolding ends
   ends_min (here e) = here (ap min e)
   ends_min (there m) = there (there (ends_min m))
 
-  ends_max : {l : List ℕ} {i : ℕ} → In i l → In (max i) (ends C l)
+  ends_max : {i : ℕ} {l : List ℕ} → In i l → In (max i) (ends C l)
   unfolding ends
   ends_max (here e) = there (here (ap max e))
   ends_max (there m) = there (there (ends_max m))

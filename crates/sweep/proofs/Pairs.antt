@@ -67,7 +67,7 @@ pairs_out (i ∷ l) {q} u m =
     (λ (h : In q (pairs l)). let r = pairs_out l u.1 h in (there r.0, there r.1, r.2))
     (Memᴰ.append_cases (map (λ (j : ℕ). (i, j)) l) m)
 
-pub pairs_in : {l : List ℕ} {i j : ℕ} → Pairwise ◌<◌ l → In i l → In j l → i < j → In (i, j) (pairs l)
+pub pairs_in : {i j : ℕ} {l : List ℕ} → Pairwise ◌<◌ l → In i l → In j l → i < j → In (i, j) (pairs l)
 unfolding pairs
 pairs_in u (here e) (here d) h = absurd (omega arith)
 pairs_in {j = j} u (here {x = x} {xs = l} e) (there m) h = Memᴰ.append_left {s = map (λ (j : ℕ). (x, j)) l} (pairs l) (rw e (Memᴰ.map (λ (j : ℕ). (x, j)) m))

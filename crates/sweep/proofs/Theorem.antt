@@ -60,7 +60,7 @@ module _ (C : Chart) where
             visited_is =
                 W.visited_start
                 ∙ sym (keep_none _ (points C) (λ x m. ltb_no (key x) (bound key (last (run 0))) (omega (arith, ap (bound key) W.last_start, bound_none key))));
-            listed_is = W.Listed-start ∙ ap (pairs_along C) (sym W.visited_start);
+            listed_is = W.listed_start ∙ ap (pairs_along C) (sym W.visited_start);
           }
 
       -- a step takes the least point that is left
