@@ -1,9 +1,8 @@
 -- What stands at the places after a change: the numbers given at one, and the old ones at every other.
 -- Assumes nothing.
-use mathlib.Core.Path.{◌≡◌, refl, sym, ap, ap₂, ◌∙◌}
-use mathlib.Core.Bool.{cond}
-use mathlib.Core.List.{List, [], ◌∷◌, ◌++◌}
-use mathlib.Core.Logic.{◌≢◌, ⊎_elim}
+use mathlib.Core.Path.{◌≡◌, refl, sym, ap, ◌∙◌}
+use mathlib.Core.List.{List}
+use mathlib.Core.Logic.{◌≢◌}
 use Prim.Native.Nat.{ℕ, zero, suc, ◌+◌, ◌*◌, ◌<◌, ◌≤◌}
 use native.Mathlib.Nat.{add-zero}
 use native.Mathlib.Omega.{arith}
@@ -12,8 +11,8 @@ use lib.ListN.{length, get_or, set, length-set}
 use lib.Seq.{get_or-set_same, get_or-set_other}
 use Rattle.charts.specs.Chart.{number_at, fault_at}
 use Rattle.charts.specs.Piece.{piece_at}
-use Rattle.open_chart.specs.Memory.{places, memory, five, is_used, written}
-use Rattle.open_chart.specs.Model.{Content, content_at}
+use Rattle.open_chart.specs.Memory.{five, is_used, written}
+use Rattle.open_chart.specs.Model.{content_at}
 use Rattle.open_chart.proofs.Puts.{five_written}
 
 -- what stands at a place is decided by its five numbers

@@ -1,16 +1,16 @@
 -- The used pieces beside each other in an array: each under its name, all of some length, and their pairs.
 -- Assumes nothing.
-use mathlib.Core.Path.{◌≡◌, refl, sym, ap, ap₂, ◌∙◌, subst}
+use mathlib.Core.Path.{◌≡◌, refl, sym, ap, ◌∙◌, subst}
 use mathlib.Core.Bool.{true}
 use mathlib.Core.List.{List, [], ◌∷◌, ◌++◌, map}
 use mathlib.Core.List.Memᴰ.{head as here}
 use mathlib.Core.List.Memᴰ.{tail as there}
 use mathlib.Core.List.{Memᴰ as In}
-use Prim.Native.Nat.{ℕ, zero, suc, ◌*◌, ◌+◌, ◌<◌, ◌≤◌}
+use Prim.Native.Nat.{ℕ, zero, suc, ◌*◌, ◌<◌, ◌≤◌}
 use native.Mathlib.Omega.{arith}
 use borrow.Author.Tests.{eqb-true}
 use lib.IntN.{ℤ, pos}
-use lib.ListN.{length, get_or, take, drop, length-drop, length-map, length-append, get_or-append}
+use lib.ListN.{length, get_or, drop, length-drop, length-map, length-append, get_or-append}
 use lib.Seq.{get_or-take, take-append_seam, drop-append_seam}
 use Rattle.line_segment.specs.declared.LineSegment.{LineSegment}
 use Rattle.line_segment.specs.Piece.{piece_of, HasLength}
@@ -22,10 +22,10 @@ use Rattle.naive.specs.Pairs.{Pair, rows, bytes, over}
 use Rattle.naive.specs.AllPairs.{meets}
 use Rattle.naive.specs.Decoded.{blank, meets_in}
 use Rattle.naive.specs.Sides.{Long}
-use Rattle.naive.proofs.Rows.{bytes_length, rows_same, rows_room}
+use Rattle.naive.proofs.Rows.{bytes_length, rows_same}
 use Rattle.naive.proofs.Listed.{rows_say}
 use Rattle.open_chart.specs.Memory.{places, five, is_used, used_below}
-use Rattle.open_chart.specs.Listing.{meets_on, open_pairs, Gathered, named, renamed}
+use Rattle.open_chart.specs.Listing.{open_pairs, Gathered, named, renamed}
 use Rattle.open_chart.proofs.Counts.{count, count_most, count_less, nth_used, all_used}
 use Rattle.open_chart.proofs.Names.{both, bytes_named, beside, rows_named}
 

@@ -1,33 +1,27 @@
 -- Changes in memory are changes of the places in mind.
 -- Assumes nothing.
-use mathlib.Core.Path.{◌≡◌, refl, sym, ap, ap₂, ◌∙◌, subst}
-use mathlib.Core.Bool.{Bool, true, false, cond, ◌&&◌}
-use mathlib.Core.List.{List, [], ◌∷◌, ◌++◌}
+use mathlib.Core.Path.{◌≡◌, refl, sym, ap, ◌∙◌, subst}
+use mathlib.Core.Bool.{Bool, true, false}
+use mathlib.Core.List.{List, [], ◌∷◌}
 use mathlib.Core.Logic.{◌≢◌}
-use Prim.Native.Nat.{ℕ, zero, suc, ◌+◌, ◌*◌, ◌<◌, ◌≤◌}
-use native.Mathlib.Nat.{add-zero, add-suc, suc-add}
+use Prim.Native.Nat.{ℕ, zero, suc, ◌+◌, ◌<◌, ◌≤◌}
+use native.Mathlib.Nat.{add-zero}
 use native.Mathlib.Omega.{arith}
 use borrow.Author.Tests.{eqb-true, eqb-false, ltb-true, ltb-false, ne_eqb}
 use lib.Dec.{T, eqb, ltb}
-use lib.IntN.{ℤ, pos, negsuc}
-use lib.ListN.{length, get_or, set, drop, replicate, length-set, length-replicate, get_or-replicate, get_or-append}
+use lib.IntN.{ℤ, negsuc}
+use lib.ListN.{length, get_or, set, length-set}
 use lib.Seq.{get_or-set_same, get_or-set_other, set_out, set-get_or, ext_get_or}
 use Rattle.line_segment.specs.declared.LineSegment.{LineSegment}
-use Rattle.line_segment.specs.Segment.{intersect_of}
-use Rattle.line_segment.specs.Demand.{says_yes}
 use Rattle.charts.specs.Fault.{outside, off_range, same_ends, eq_z, fault_of}
 use Rattle.charts.specs.Chart.{number_at, fault_at}
 use Rattle.charts.specs.Piece.{piece_at}
-use Rattle.naive.specs.Pairs.{rows}
-use Rattle.naive.specs.AllPairs.{meets}
-use Rattle.naive.proofs.Rows.{rows_same}
 use Rattle.open_chart.specs.Memory.{places, memory, five, vacant, is_used, lowest_free, written}
-use Rattle.open_chart.specs.Changes.{emptied, after_adding, after_dropping}
-use Rattle.open_chart.specs.Listing.{meets_on, open_pairs}
-use Rattle.open_chart.specs.Model.{Content, free, piece, content_at, contents_from, contents, Change, Add, Drop, lowest, changed, changed_all, after, after_all, asked, afresh}
+use Rattle.open_chart.specs.Changes.{after_adding, after_dropping}
+use Rattle.open_chart.specs.Model.{Content, free, piece, content_at, contents_from, contents, Add, Drop, lowest, changed}
 use Rattle.open_chart.proofs.Lowest.{lowest_most, lowest_below, lowest_here}
 use Rattle.open_chart.proofs.Outcomes.{added, adding_faulted, adding_full, adding_at, dropped, dropping_unknown, dropping_free, dropping_at}
-use Rattle.open_chart.proofs.Alters.{same_content, content_here, content_other, written_length}
+use Rattle.open_chart.proofs.Alters.{content_here, content_other}
 
 pub case : {P : Type 0} (t : Bool) → (t ≡ true → P) → (t ≡ false → P) → P
 case true f g = f refl

@@ -2,8 +2,8 @@
 -- Assumes nothing.
 use mathlib.Core.Path.{◌≡◌, refl, sym, ap, ap₂, ◌∙◌, subst}
 use mathlib.Core.Bool.{Bool, true, false, cond, ◌&&◌}
-use mathlib.Core.List.{List, [], ◌∷◌, ◌++◌}
-use Prim.Native.Nat.{ℕ, zero, suc, ◌+◌, ◌*◌, ◌<◌, ◌≤◌}
+use mathlib.Core.List.{List, [], ◌∷◌}
+use Prim.Native.Nat.{ℕ, ◌+◌, ◌*◌, ◌<◌, ◌≤◌}
 use native.Mathlib.Omega.{arith}
 use borrow.Author.Tests.{eqb-true, eqb-false, ltb-true, ltb-false}
 use lib.Dec.{eqb, ltb}
@@ -18,8 +18,8 @@ use Rattle.charts.specs.Piece.{piece_at}
 use Rattle.naive.specs.Pairs.{rows}
 use Rattle.naive.specs.AllPairs.{meets}
 use Rattle.naive.proofs.Rows.{rows_same}
-use Rattle.open_chart.specs.Memory.{places, memory, five, vacant, is_used, lowest_free, written}
-use Rattle.open_chart.specs.Changes.{emptied, after_adding, after_dropping, after_emptying}
+use Rattle.open_chart.specs.Memory.{places, memory, five, vacant, is_used, lowest_free}
+use Rattle.open_chart.specs.Changes.{emptied, after_adding, after_dropping}
 use Rattle.open_chart.specs.Listing.{meets_on, open_pairs}
 use Rattle.open_chart.specs.Model.{Content, free, piece, content_at, contents, Change, Add, Drop, changed_all, after, after_all, asked, afresh}
 use Rattle.open_chart.specs.Demand.{KeepsLength, BeginsEmpty, StaysTrue, ListsAfresh}

@@ -1,10 +1,8 @@
 -- A day of an open chart, worked out by the definitions.
 use mathlib.Core.Path.{◌≡◌, refl}
-use mathlib.Core.Bool.{true, false}
+use mathlib.Core.Bool.{false}
 use mathlib.Core.List.{List, [], ◌∷◌, ◌++◌}
-use Prim.Native.Nat.{ℕ}
 use lib.IntN.{ℤ, pos, negsuc}
-use lib.ListN.{get_or}
 use Rattle.orientation.specs.Turn.{det, turn_of}
 use Rattle.fractions.specs.Order.{order}
 use Rattle.fractions.specs.Fraction.{ratio_order}
@@ -18,7 +16,7 @@ use Rattle.naive.specs.Pairs.{row, rows}
 use Rattle.naive.specs.AllPairs.{meets}
 use Rattle.open_chart.specs.Memory.{five, vacant, is_used, used_below, lowest_free, written}
 use Rattle.open_chart.specs.Listing.{meets_on}
-use Rattle.open_chart.specs.Model.{free, piece, lowest, changed_all, Add, Drop, afresh}
+use Rattle.open_chart.specs.Model.{free, lowest, changed_all, Add, Drop, afresh}
 
 -- five places: the upright gap of docs/CHART.md with a free place between its pieces, and numbers that are no piece
 abbrev day : List ℤ

@@ -3,15 +3,14 @@
 use mathlib.Core.Path.{◌≡◌, refl, sym, ap, ap₂, ◌∙◌}
 use mathlib.Core.Bool.{Bool, true, false}
 use mathlib.Core.List.{List, [], ◌∷◌, ◌++◌, map, append-nil}
-use Prim.Native.Nat.{ℕ, zero, suc, ◌<◌, ◌≤◌}
+use Prim.Native.Nat.{ℕ, zero, suc, ◌<◌}
 use native.Mathlib.Omega.{arith}
 use borrow.Table.Elements.{map_app}
 use lib.IntN.{ℤ}
-use lib.ListN.{length}
 use Rattle.naive.specs.Pairs.{Pair, row, rows, bytes}
 use Rattle.naive.specs.AllPairs.{meets}
 use Rattle.naive.proofs.Rows.{row_none, row_yes, row_no, rows_none, rows_more}
-use Rattle.open_chart.specs.Memory.{is_used, used_below}
+use Rattle.open_chart.specs.Memory.{is_used}
 use Rattle.open_chart.specs.Listing.{meets_on, named}
 use Rattle.open_chart.proofs.Counts.{count, count_none, count_used, count_free}
 

@@ -1,6 +1,6 @@
 -- What the calls answer and leave, by what they found.
 -- Assumes nothing.
-use mathlib.Core.Path.{◌≡◌, refl, sym, ap, ap₂, ◌∙◌}
+use mathlib.Core.Path.{◌≡◌, refl, sym, ap, ◌∙◌}
 use mathlib.Core.Bool.{true, false}
 use mathlib.Core.List.{List}
 use Prim.Native.Nat.{ℕ, zero, suc, ◌<◌, ◌≤◌}
@@ -9,11 +9,11 @@ use lib.IntN.{ℤ}
 use lib.ListN.{length}
 use Rattle.charts.specs.declared.Verdict.{Verdict}
 use Rattle.charts.specs.declared.Verdict.TheVariants.{Accepted, Refused}
-use Rattle.charts.specs.Answer.{answer_of, room, then_room}
+use Rattle.charts.specs.Answer.{answer_of, room}
 use Rattle.charts.specs.Chart.{number_at, fault_at}
 use Rattle.charts.specs.Fault.{fault_of}
 use Rattle.open_chart.specs.Memory.{places, memory, five, is_used, used_below, lowest_free, vacant}
-use Rattle.open_chart.specs.Changes.{whole, faulted, adding, dropping, changed_by, changed_of, after_adding, after_dropping, emptying_of, emptied, after_emptying, used_of}
+use Rattle.open_chart.specs.Changes.{whole, adding, dropping, changed_by, changed_of, after_adding, after_dropping, emptying_of, emptied, after_emptying, used_of}
 use Rattle.open_chart.specs.Listing.{open_pairs, listing_on, open_pairs_of, written_by, lent_after}
 
 pub five_fault : (kind x1 y1 x2 y2 : ℤ) → fault_at (five kind x1 y1 x2 y2) 0 ≡ fault_of kind x1 y1 x2 y2

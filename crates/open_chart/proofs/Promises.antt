@@ -3,7 +3,7 @@
 use mathlib.Core.Path.{◌≡◌, refl, sym, ap, ◌∙◌, subst}
 use mathlib.Core.Bool.{Bool, true, false, ◌&&◌}
 use mathlib.Core.List.Memᴰ
-use mathlib.Core.List.{List, [], ◌∷◌, ◌++◌}
+use mathlib.Core.List.{List}
 use mathlib.Core.List.Memᴰ.{append_cases as cases}
 use mathlib.Core.List.Memᴰ.{eq_of_singleton as only}
 use mathlib.Core.List.Memᴰ.{head as here}
@@ -22,21 +22,19 @@ use Rattle.line_segment.proofs.Promises.{says_yes_exactly}
 use Rattle.charts.specs.declared.Verdict.{Verdict}
 use Rattle.charts.specs.declared.Verdict.TheVariants.{Accepted, Refused}
 use Rattle.charts.specs.Answer.{room}
-use Rattle.charts.specs.Fault.{fault_of}
 use Rattle.charts.specs.Chart.{number_at, fault_at}
 use Rattle.charts.specs.Demand.{Fault, FaultOf}
 use Rattle.charts.specs.Piece.{piece_at}
 use Rattle.charts.proofs.Rows.{fault_due, fault_given}
-use Rattle.naive.specs.Pairs.{rows}
 use Rattle.naive.specs.AllPairs.{meets}
 use Rattle.naive.proofs.Listed.{rows_say, rows_have, rows_ascend, once}
 use Rattle.open_chart.specs.Memory.{places, memory, five, vacant, is_used, used_below, lowest_free, written}
-use Rattle.open_chart.specs.Changes.{adding, dropping, changed_by, after_adding, after_dropping}
+use Rattle.open_chart.specs.Changes.{adding, dropping}
 use Rattle.open_chart.specs.Listing.{meets_on, open_pairs, listing_on}
 use Rattle.open_chart.specs.Demand.{Used, LowestFree, AddDue, DropDue, ListDue, AddsExactly, DropsExactly, ListsWhenRoomy, CountsUsed, PiecesAsGiven, RefusedAltersNothing, AltersOnePlace, AddsAfterDropping, ListsExactly, ListsInOrder, ListsOnce}
 use Rattle.open_chart.proofs.Gathers.{below_none, below_used, below_free}
 use Rattle.open_chart.proofs.Lowest.{lowest_most, lowest_below, lowest_here, used_up, found}
-use Rattle.open_chart.proofs.Outcomes.{five_fault, small, large, added, adding_small, adding_faulted, adding_full, adding_at, dropped, dropping_small, dropping_unknown, dropping_free, dropping_at, listing_small, listing_tight, listing_goes}
+use Rattle.open_chart.proofs.Outcomes.{five_fault, added, adding_small, adding_faulted, adding_full, adding_at, dropped, dropping_small, dropping_unknown, dropping_free, dropping_at, listing_small, listing_tight, listing_goes}
 use Rattle.open_chart.proofs.Beside.{used_long, used_as_given}
 use Rattle.open_chart.proofs.Alters.{same_used, numbers_here, numbers_other, written_length}
 use Rattle.open_chart.proofs.Contents.{case, vacant_unused}
@@ -202,10 +200,10 @@ module _ (chart : List ℤ) (i : ℕ) where
       go (AddDue.at h f i l) = omega (arith, l.known)
 
   drop_used : dropping chart i ≡ Accepted i → (memory ≤ length chart) × Used chart i
-  drop_used q = go ((drops_exactly chart i (Accepted i)).0 q)
+  drop_used q = go i ((drops_exactly chart i (Accepted i)).0 q)
     where
-      go : DropDue chart i (Accepted i) → (memory ≤ length chart) × Used chart i
-      go (DropDue.at h u) = (h, u)
+      go : (j : ℕ) → DropDue chart i (Accepted j) → (memory ≤ length chart) × Used chart i
+      go j (DropDue.at h u) = (h, u)
 
 pub alters_one_place : AltersOnePlace
 alters_one_place chart i j k n l = (

@@ -1,5 +1,5 @@
 -- What the calls that make an open chart, change it and count its pieces answer, and what they leave in its memory.
-use Rattle.std.specs.Prelude.{cond, ◌&&◌, List, [], ◌∷◌, ◌++◌, ℕ, zero, suc, eqb, ltb, ℤ, negsuc, length, drop, replicate}
+use Rattle.std.specs.Prelude.{cond, ◌&&◌, List, ◌++◌, ℕ, zero, suc, eqb, ltb, ℤ, negsuc, length, drop, replicate}
 use Rattle.charts.specs.declared.Answer.{Answer}
 use Rattle.charts.specs.declared.Verdict.{Verdict}
 use Rattle.charts.specs.declared.Verdict.TheVariants.{Accepted, Refused}
