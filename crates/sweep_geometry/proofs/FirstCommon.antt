@@ -21,9 +21,9 @@ use Rattle.line_segment.proofs.Booleans.{clash}
 use Rattle.line_segment.proofs.Promises.{says_yes_exactly, crossing_is_cramers, overlap_ends}
 use Rattle.line_segment.proofs.Lying.{whole, closed_line, closed_from, closed_upto, lies_closed}
 use Rattle.line_segment.proofs.Sides.{tilt, one_point}
-use Rattle.sweep.specs.Chart.{crosses, overlaps, kind, at}
+use Rattle.sweep.specs.Chart.{crosses, overlaps, kind}
 use Rattle.sweep.specs.Ported.{is_less, ported}
-use Rattle.sweep.specs.Sought.{later, first}
+use Rattle.sweep.specs.Sought.{later}
 use Rattle.sweep.proofs.Tests.{ask}
 use Rattle.sweep.proofs.First.{meets_two, first_crosses, first_overlaps}
 use Rattle.sweep_geometry.specs.Demand.{LeastCommon, FirstCommon, FirstIsLeast}
