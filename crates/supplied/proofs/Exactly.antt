@@ -3,22 +3,17 @@
 use mathlib.Core.Path.{◌≡◌, refl, sym, ap, ap₂, ◌∙◌, subst}
 use mathlib.Core.Bool.{Bool, true, false, cond}
 use mathlib.Core.List.{List}
-use mathlib.Core.Logic.{◌⊎◌, inl, inr, ⊎_elim, ◌↔◌, ◌≢◌}
-use Prim.Native.Nat.{ℕ, ◌/◌, ◌%◌, ◌≤◌, ◌<◌}
+use mathlib.Core.Logic.{inl, inr, ⊎_elim, ◌≢◌}
+use Prim.Native.Nat.{ℕ, ◌/◌, ◌<◌}
 use native.Mathlib.Nat.{eq-or-lt_of_le}
 use native.Mathlib.Omega.{arith}
 use borrow.Author.Tests.{ltb-true, ltb-false}
 use lib.Dec.{ltb}
 use lib.IntN.{ℤ}
 use lib.ListN.{length}
-use Rattle.charts.specs.Chart.{verdict_of}
-use Rattle.charts.specs.declared.Verdict.TheVariants.{Accepted as Going}
-use Rattle.naive.specs.Pairs.{Pair}
 use Rattle.naive.specs.Demand.{Before}
-use Rattle.supplied.specs.declared.Checked.{Checked}
 use Rattle.supplied.specs.declared.Checked.TheVariants.{Accepted, Fault, Missing}
 use Rattle.supplied.specs.Entries.{one, other, named}
-use Rattle.supplied.specs.Checking.{checked_of}
 use Rattle.supplied.specs.Demand.{Meets, Names, Named, AtFault, no_piece, itself, apart, repeated, Good, GoodBelow, Lacks, Due, fault, lacks, accepted, OneIsDue, NamesOnce, AcceptsExactly}
 use Rattle.supplied.proofs.Sides.{turned, named_yes, named_has}
 use Rattle.supplied.proofs.Promises.{says_what_is_due}

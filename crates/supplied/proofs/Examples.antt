@@ -1,7 +1,6 @@
 -- The upright gap of docs/CHART.md, where (1,0) and (2,0) meet, and lists held to it by the definitions.
 use mathlib.Core.Path.{◌≡◌, refl}
-use mathlib.Core.List.{List, [], ◌∷◌, ◌++◌}
-use Prim.Native.Nat.{ℕ}
+use mathlib.Core.List.{List, [], ◌∷◌}
 use lib.IntN.{ℤ, pos, negsuc}
 use Rattle.orientation.specs.Turn.{det, turn_of}
 use Rattle.fractions.specs.Order.{order}

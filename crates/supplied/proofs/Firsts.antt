@@ -1,6 +1,6 @@
 -- The first of a list stays the first however the list goes on, so the first pair found by rows is the first of all rows.
 -- Assumes nothing.
-use mathlib.Core.Path.{◌≡◌, refl, sym, ap, ◌∙◌}
+use mathlib.Core.Path.{◌≡◌, sym, ap, ◌∙◌}
 use mathlib.Core.Bool.{Bool, true}
 use mathlib.Core.List.{List, [], ◌∷◌, ◌++◌}
 use mathlib.Core.Logic.{⊎_elim}
@@ -9,7 +9,7 @@ use native.Mathlib.Nat.{eq-or-lt_of_le}
 use native.Mathlib.Omega.{arith}
 use Rattle.naive.specs.Pairs.{Pair, row, rows}
 use Rattle.naive.proofs.Rows.{row_yes}
-use Rattle.supplied.specs.declared.First.TheVariants.{None, At}
+use Rattle.supplied.specs.declared.First.TheVariants.{At}
 use Rattle.supplied.specs.Entries.{first_of}
 
 pub first_stays : (s t : List Pair) (a b : ℕ) → first_of s ≡ At a b → first_of (s ++ t) ≡ At a b

@@ -3,12 +3,11 @@
 use mathlib.Core.Path.{◌≡◌, refl, sym, ap, ◌∙◌}
 use mathlib.Core.Bool.{Bool, true, false, ◌&&◌, ◌||◌}
 use mathlib.Core.List.{List}
-use mathlib.Core.Logic.{◌⊎◌, inl, inr, ⊎_elim}
-use Prim.Native.Nat.{ℕ, zero, suc, ◌*◌, ◌<◌}
+use Prim.Native.Nat.{ℕ, suc, ◌*◌, ◌<◌}
 use native.Mathlib.Omega.{arith}
 use borrow.Author.Tests.{eq-eqb, ne_eqb, eqb-true, eqb-false}
 use lib.Dec.{eqb}
-use lib.ListN.{length, get_or, set, length-set, replicate, length-replicate, get_or-replicate}
+use lib.ListN.{get_or, set, length-set, replicate, length-replicate, get_or-replicate}
 use lib.Seq.{get_or-set_same, get_or-set_other}
 use Rattle.charts.specs.Chart.{most}
 use Rattle.charts.specs.PairList.{cell}

@@ -17,7 +17,7 @@ use Rattle.naive.specs.Pairs.{Pair, rows}
 use Rattle.naive.proofs.Rows.{rows_same}
 use Rattle.supplied.specs.declared.First.{First}
 use Rattle.supplied.specs.declared.First.TheVariants.{None, At}
-use Rattle.supplied.specs.declared.Checked.TheVariants.{Accepted, Fault, Missing, Refused}
+use Rattle.supplied.specs.declared.Checked.TheVariants.{Fault, Refused}
 use Rattle.supplied.specs.Entries.{one, other, top, low, first_of, named, fault_of, fault_at, faults, missing}
 use Rattle.supplied.specs.Checking.{told, held_to, supplied_of, checked_of}
 use Rattle.supplied.specs.Marks.{Marked, Walked, unmarked}

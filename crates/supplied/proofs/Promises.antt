@@ -6,20 +6,19 @@ use mathlib.Core.List.{List, [], ◌∷◌, ◌++◌}
 use mathlib.Core.List.Memᴰ.{cases_cons}
 use mathlib.Core.List.Memᴰ.{head as here}
 use mathlib.Core.List.Memᴰ.{not-nil}
-use mathlib.Core.List.Memᴰ.{tail as there}
 use mathlib.Core.List.{Memᴰ as In}
 use mathlib.Core.Logic.{◌⊎◌, inl, inr, ⊎_elim, ◌↔◌, ◌≢◌}
-use Prim.Native.Nat.{ℕ, zero, suc, ◌/◌, ◌%◌, ◌≤◌, ◌<◌}
+use Prim.Native.Nat.{ℕ, zero, suc, ◌/◌, ◌≤◌, ◌<◌}
 use native.Mathlib.Nat.{eq-or-lt_of_le}
 use native.Mathlib.Omega.{arith}
-use borrow.Author.Tests.{leb-true, leb-false, eqb-true, eqb-false, not_true}
+use borrow.Author.Tests.{leb-true, leb-false, eqb-true, eqb-false}
 use lib.Dec.{eqb, leb}
 use lib.IntN.{ℤ}
 use lib.ListN.{length}
 use Rattle.line_segment.proofs.Promises.{says_yes_exactly}
 use Rattle.charts.specs.Chart.{verdict_of}
 use Rattle.charts.specs.Piece.{piece_at}
-use Rattle.charts.specs.declared.Verdict.TheVariants.{Accepted as Going, Refused as Stopped}
+use Rattle.charts.specs.declared.Verdict.TheVariants.{Accepted as Going}
 use Rattle.charts.proofs.Accepted.{pieces_have_length}
 use Rattle.naive.specs.AllPairs.{meets}
 use Rattle.naive.specs.Pairs.{Pair, rows}
@@ -27,11 +26,9 @@ use Rattle.naive.specs.Demand.{Pairwise, Before}
 use Rattle.naive.proofs.Listed.{rows_say, rows_have, rows_ascend}
 use Rattle.supplied.specs.declared.First.{First}
 use Rattle.supplied.specs.declared.First.TheVariants.{None, At}
-use Rattle.supplied.specs.declared.Checked.{Checked}
-use Rattle.supplied.specs.declared.Checked.TheVariants.{Accepted, Fault, Missing, Refused}
 use Rattle.supplied.specs.Entries.{one, other, top, low, first_of, named, fault_of, fault_at, faults, missing}
-use Rattle.supplied.specs.Checking.{told, held_to, checked_of}
-use Rattle.supplied.specs.Demand.{Meets, Names, Named, AtFault, no_piece, itself, apart, repeated, Good, GoodBelow, Lacks, Due, fault, lacks, accepted, Refuses, RefusesInOrder, SaysWhatIsDue}
+use Rattle.supplied.specs.Checking.{told, held_to}
+use Rattle.supplied.specs.Demand.{Meets, AtFault, no_piece, itself, apart, repeated, Good, Lacks, Due, fault, lacks, accepted, RefusesInOrder, SaysWhatIsDue}
 use Rattle.supplied.proofs.Entries.{in_order}
 use Rattle.supplied.proofs.Outcomes.{checked_refused, checked_held}
 use Rattle.supplied.proofs.Refusals.{supplied_accepted, supplied_refused, supplied_odd}

@@ -11,11 +11,9 @@ use lib.Dec.{eqb, ltb}
 use lib.IntN.{ℤ}
 use Rattle.line_segment.specs.declared.LineSegment.{LineSegment}
 use Rattle.line_segment.specs.Demand.{Meet}
-use Rattle.charts.specs.Piece.{piece_at}
 use Rattle.supplied.specs.Entries.{greater, lesser, one, other, top, low, named}
 use Rattle.supplied.specs.Demand.{Meets, Names, Named}
 use Rattle.supplied.proofs.Entries.{in_order}
-use Rattle.supplied.proofs.Marks.{named_here, named_top, named_low}
 
 -- two numbers one way round, or the other
 pub sides : (x y : ℕ) → ((greater x y ≡ x) × (lesser x y ≡ y)) ⊎ ((greater x y ≡ y) × (lesser x y ≡ x))

@@ -1,27 +1,24 @@
 -- A list of pairs and its bytes: entry i is the i-th pair; so the list is accepted exactly when it has each meeting pair once.
 -- Assumes nothing.
 use mathlib.Core.Path.{◌≡◌, refl, sym, ap, ap₂, ◌∙◌, subst}
-use mathlib.Core.List.{List, [], ◌∷◌, ◌++◌}
+use mathlib.Core.List.{List, [], ◌∷◌}
 use mathlib.Core.List.Memᴰ.{cases_cons}
 use mathlib.Core.List.Memᴰ.{head as here}
 use mathlib.Core.List.Memᴰ.{not-nil}
 use mathlib.Core.List.Memᴰ.{tail as there}
 use mathlib.Core.List.{Memᴰ as In}
-use mathlib.Core.Logic.{◌⊎◌, inl, inr, ⊎_elim, ◌↔◌, ◌≢◌}
+use mathlib.Core.Logic.{◌⊎◌, inl, inr, ⊎_elim, ◌≢◌}
 use Prim.Native.Nat.{ℕ, zero, suc, ◌+◌, ◌*◌, ◌/◌, ◌%◌, ◌<◌}
 use native.Mathlib.Omega.{arith}
 use lib.IntN.{ℤ}
 use lib.ListN.{length, get_or}
-use Rattle.charts.specs.Chart.{verdict_of}
-use Rattle.charts.specs.declared.Verdict.TheVariants.{Accepted as Going}
 use Rattle.naive.specs.AllPairs.{pairs_of}
 use Rattle.naive.specs.Pairs.{Pair, bytes}
 use Rattle.naive.specs.Demand.{Pairwise}
 use Rattle.naive.proofs.Exactly.{lists_exactly, lists_once}
 use Rattle.naive.proofs.Rows.{bytes_length}
-use Rattle.supplied.specs.declared.Checked.TheVariants.{Accepted}
 use Rattle.supplied.specs.Entries.{one, other}
-use Rattle.supplied.specs.Demand.{Meets, Names, Named, NamesOnce, turn, Lists, AcceptsLists, AcceptsAllPairs, AcceptsLesserFirst}
+use Rattle.supplied.specs.Demand.{Names, Named, NamesOnce, turn, Lists, AcceptsLists, AcceptsAllPairs, AcceptsLesserFirst}
 use Rattle.supplied.proofs.Sides.{turned}
 use Rattle.supplied.proofs.Exactly.{accepts_exactly}
 
