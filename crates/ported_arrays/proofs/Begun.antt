@@ -1,16 +1,16 @@
 -- What a step leaves waiting: crossings beyond p, of pieces that have begun by p.
-use mathlib.Core.Path.{◌≡◌, refl, sym, ap, ◌∙◌, subst}
-use mathlib.Core.Logic.{◌⊎◌, inl, inr, ⊎_elim}
-use mathlib.Core.Bool.{Bool, true, false, cond, not, ◌&&◌, ◌||◌}
+use mathlib.Core.Path.{◌≡◌, refl, ap, ◌∙◌, subst}
+use mathlib.Core.Logic.{⊎_elim}
+use mathlib.Core.Bool.{true, false, not, ◌&&◌, ◌||◌}
 use mathlib.Core.Option.{Option, none, some}
 use mathlib.Core.List.{List, [], ◌∷◌}
 use mathlib.Core.List.Memᴰ.{head as here}
 use mathlib.Core.List.Memᴰ.{tail as there}
 use mathlib.Core.List.{Memᴰ as In}
-use Prim.Native.Nat.{ℕ, ◌<◌}
-use Rattle.sweep.specs.Lists.{Pair, among, keep}
-use Rattle.sweep.specs.Chart.{Kind, nothing, crosses, overlaps, Chart, meets, same, kind, at}
-use Rattle.sweep.specs.State.{Marks, State}
+use Prim.Native.Nat.{ℕ}
+use Rattle.sweep.specs.Lists.{Pair, among}
+use Rattle.sweep.specs.Chart.{Kind, nothing, crosses, overlaps, Chart, meets, kind, at}
+use Rattle.sweep.specs.State.{Marks}
 use Rattle.sweep.specs.Queue.{beyond}
 use Rattle.sweep.specs.Step.{list, wait, each, report, drop, examine_free, examine}
 use Rattle.sweep.proofs.Tests.{ask, clash}

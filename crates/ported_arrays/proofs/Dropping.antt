@@ -1,21 +1,20 @@
 -- The waiting marks of p's crossings drop, in the ledger as in the state.
 use mathlib.Core.Path.{◌≡◌, refl, sym, ap, ◌∙◌}
-use mathlib.Core.Logic.{◌⊎◌, inl, inr, ⊎_elim}
-use mathlib.Core.Bool.{Bool, true, false, cond, not, ◌&&◌}
+use mathlib.Core.Logic.{⊎_elim}
+use mathlib.Core.Bool.{Bool, true, false, not}
 use mathlib.Core.List.Memᴰ
 use mathlib.Core.List.{List, [], ◌∷◌, map}
 use mathlib.Core.List.Memᴰ.{head as here}
 use mathlib.Core.List.Memᴰ.{tail as there}
 use mathlib.Core.List.{Memᴰ as In}
-use Prim.Native.Nat.{ℕ, ◌+◌, ◌≤◌, ◌<◌}
+use Prim.Native.Nat.{ℕ, ◌+◌, ◌<◌}
 use native.Mathlib.Omega.{arith}
 use lib.ListN.{length, length-map}
 use Rattle.charts.specs.Chart.{most}
 use Rattle.sweep.specs.Lists.{Pair, among, keep, Pairwise}
-use Rattle.sweep.specs.Chart.{Chart, same, kind, at}
+use Rattle.sweep.specs.Chart.{Chart, same, at}
 use Rattle.sweep.specs.State.{Marks}
 use Rattle.sweep.specs.Step.{drop}
-use Rattle.sweep.specs.Demand.{Pieces}
 use Rattle.sweep.proofs.Tests.{ask, clash}
 use Rattle.sweep.proofs.Lists.{keep_in, keep_out, keep_same, pairwise_keep}
 use Rattle.sweep.proofs.Pairs.{among_in, among_out, among_no}

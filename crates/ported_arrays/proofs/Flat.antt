@@ -1,9 +1,8 @@
 -- The bytes of a list of pairs, and one pair more of them over lent bytes.
 use mathlib.Core.Path.{◌≡◌, refl, sym, ap, ◌∙◌}
 use mathlib.Core.List.{List, [], ◌∷◌, ◌++◌, append_assoc}
-use Prim.Native.Nat.{ℕ, suc, ◌+◌, ◌≤◌, ◌<◌}
+use Prim.Native.Nat.{ℕ, suc, ◌+◌, ◌<◌}
 use native.Mathlib.Omega.{arith}
-use native.Mathlib.Numerals.{add-one}
 use lib.ListN.{length, drop, set, get_or, length-append}
 use lib.Seq.{drop-cons, set_at}
 use Rattle.sweep.specs.Lists.{Pair}

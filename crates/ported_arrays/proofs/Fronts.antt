@@ -1,7 +1,7 @@
 -- In a list in the order of points, none before p: those at p are the front, and those beyond it the rest.
-use mathlib.Core.Path.{◌≡◌, refl, sym, ap, ap₂, ◌∙◌, subst}
-use mathlib.Core.Logic.{◌≢◌, ◌⊎◌, inl, inr, ⊎_elim}
-use mathlib.Core.Bool.{Bool, true, false, cond, not, ◌&&◌}
+use mathlib.Core.Path.{◌≡◌, refl, sym, ap, subst}
+use mathlib.Core.Logic.{⊎_elim}
+use mathlib.Core.Bool.{Bool, true, false, not, ◌&&◌}
 use mathlib.Core.List.{List, [], ◌∷◌}
 use mathlib.Core.List.Memᴰ.{head as here}
 use mathlib.Core.List.Memᴰ.{tail as there}
@@ -10,7 +10,7 @@ use Prim.Native.Nat.{ℕ}
 use Rattle.sweep.specs.Lists.{keep, Pairwise}
 use Rattle.sweep.specs.Chart.{Chart, same}
 use Rattle.sweep.proofs.Tests.{ask, clash, and_both}
-use Rattle.sweep.proofs.Lists.{keep_none, keep_same, keep_yes, keep_no}
+use Rattle.sweep.proofs.Lists.{keep_none}
 use Rattle.ported_arrays.specs.Insertion.{front, rest}
 use Rattle.ported_arrays.specs.Agreement.{Ordered}
 use Rattle.ported_arrays.proofs.Order.{Up}

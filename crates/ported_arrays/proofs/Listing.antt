@@ -1,24 +1,23 @@
 -- A pair that is not listed yet goes to the end of the list, in the ledger as in the state.
 use mathlib.Core.Path.{◌≡◌, refl, sym, ap, ◌∙◌, subst}
-use mathlib.Core.Logic.{◌≢◌, ◌⊎◌, inl, inr, ⊎_elim}
-use mathlib.Core.Bool.{Bool, true, false, cond}
+use mathlib.Core.Logic.{◌≢◌, ⊎_elim}
+use mathlib.Core.Bool.{true}
 use mathlib.Core.List.Memᴰ
-use mathlib.Core.List.{List, [], ◌∷◌, ◌++◌, append-nil}
+use mathlib.Core.List.{List, [], ◌∷◌, ◌++◌}
 use mathlib.Core.List.Memᴰ.{head as here}
 use mathlib.Core.List.Memᴰ.{tail as there}
 use mathlib.Core.List.{Memᴰ as In}
-use Prim.Native.Nat.{ℕ, suc, ◌+◌, ◌*◌, ◌≤◌, ◌<◌}
+use Prim.Native.Nat.{ℕ, ◌+◌, ◌≤◌, ◌<◌}
 use native.Mathlib.Omega.{arith}
 use lib.Dec.{ltb}
-use lib.ListN.{length, drop, set, get_or, length-append, length-drop, length-set}
-use Rattle.charts.specs.Chart.{most}
-use Rattle.sweep.specs.Lists.{Pair, upto, among, pairs, Pairwise}
-use Rattle.sweep.specs.Chart.{Chart, kind, at}
+use lib.ListN.{length, set, get_or, length-append, length-drop, length-set}
+use Rattle.sweep.specs.Lists.{Pair}
+use Rattle.sweep.specs.Chart.{Chart}
 use Rattle.sweep.specs.Sought.{all}
 use Rattle.sweep.specs.State.{Marks}
 use Rattle.sweep.specs.Step.{list}
 use Rattle.sweep.specs.Demand.{Pieces}
-use Rattle.sweep.proofs.Tests.{ask, ltb_yes}
+use Rattle.sweep.proofs.Tests.{ltb_yes}
 use Rattle.sweep.proofs.Pairs.{upto_in, upto_up, pairs_in, among_in, among_snoc}
 use Rattle.sweep.proofs.Lists.{pairwise_append}
 use Rattle.ported_arrays.specs.Numbers.{cell}

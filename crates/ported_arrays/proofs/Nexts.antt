@@ -1,20 +1,19 @@
 -- The next point on arrays is the least of the queue; and what that says of the ends and pairs that are left.
 use mathlib.Core.Path.{◌≡◌, refl, sym, ap, ◌∙◌, subst}
-use mathlib.Core.Logic.{◌⊎◌, inl, inr, ⊎_elim}
-use mathlib.Core.Bool.{Bool, true, false, cond}
-use mathlib.Core.Option.{Option, none, some}
+use mathlib.Core.Logic.{⊎_elim}
+use mathlib.Core.Bool.{true, false}
+use mathlib.Core.Option.{some}
 use mathlib.Core.List.{List, [], ◌∷◌, map}
 use mathlib.Core.List.Memᴰ.{head as here}
 use mathlib.Core.List.Memᴰ.{tail as there}
 use mathlib.Core.List.{Memᴰ as In}
-use Prim.Native.Nat.{ℕ, ◌*◌, ◌<◌}
+use Prim.Native.Nat.{ℕ}
 use native.Mathlib.Omega.{arith}
-use Rattle.charts.specs.Chart.{most}
 use Rattle.sweep.specs.Lists.{Pair}
 use Rattle.sweep.specs.Chart.{Chart, at}
 use Rattle.sweep.specs.State.{State}
 use Rattle.sweep.specs.Queue.{beyond, queue, least, next}
-use Rattle.sweep.proofs.Tests.{ask, clash}
+use Rattle.sweep.proofs.Tests.{ask}
 use Rattle.ported_arrays.specs.Numbers.{cell, pair_of, end_of}
 use Rattle.ported_arrays.specs.Event.{Sheet}
 use Rattle.ported_arrays.specs.Run.{next_by'}

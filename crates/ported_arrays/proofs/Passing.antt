@@ -1,6 +1,6 @@
 -- Reporting and examining pairs, one by one, keeps the ledger in step with the state.
-use mathlib.Core.Path.{◌≡◌, refl, sym, ap, ◌∙◌, subst}
-use mathlib.Core.Logic.{◌≢◌, ◌⊎◌, inl, inr, ⊎_elim}
+use mathlib.Core.Path.{◌≡◌, refl}
+use mathlib.Core.Logic.{⊎_elim}
 use mathlib.Core.Bool.{Bool, true, false, cond, not, ◌&&◌, ◌||◌}
 use mathlib.Core.List.{List, [], ◌∷◌}
 use mathlib.Core.List.Memᴰ.{head as here}
@@ -11,12 +11,12 @@ use lib.Dec.{eqb}
 use Rattle.sweep.specs.Lists.{Pair, among}
 use Rattle.sweep.specs.Chart.{Kind, nothing, crosses, overlaps, Chart, meets, kind, at}
 use Rattle.sweep.specs.State.{Marks}
-use Rattle.sweep.specs.Step.{list, wait, each, report, examine_free, examine}
+use Rattle.sweep.specs.Step.{each, report, examine_free, examine}
 use Rattle.sweep.specs.Demand.{Pieces}
 use Rattle.sweep.proofs.Tests.{ask, clash, and_both, not_true, neither}
 use Rattle.sweep.proofs.Pairs.{among_in}
 use Rattle.ported_arrays.specs.Ledger.{Ledger, mark}
-use Rattle.ported_arrays.specs.Ledger.{list as write, wait as queue, report as reports, examine_free as examines_free, examine as examines}
+use Rattle.ported_arrays.specs.Ledger.{report as reports, examine_free as examines_free, examine as examines}
 use Rattle.ported_arrays.specs.Agreement.{mark_of, Ordered, Room, Holds}
 use Rattle.ported_arrays.proofs.Listing.{list_holds}
 use Rattle.ported_arrays.proofs.Waiting.{wait_holds}

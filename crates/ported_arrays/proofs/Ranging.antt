@@ -1,48 +1,40 @@
 -- The active list after a step: those that stay and those that enter, all begun, each once, in order.
 use mathlib.Core.Path.{◌≡◌, refl, sym, ap, ap₂, ◌∙◌, subst}
-use mathlib.Core.Logic.{◌⊎◌, inl, inr, ⊎_elim, ◌≢◌}
-use mathlib.Core.Bool.{Bool, true, false, cond, not, ◌&&◌, ◌||◌}
-use mathlib.Core.Option.{Option, none, some}
+use mathlib.Core.Logic.{◌⊎◌, ⊎_elim, ◌≢◌}
+use mathlib.Core.Bool.{Bool, true, false, not, ◌&&◌, ◌||◌}
+use mathlib.Core.Option.{some}
 use mathlib.Core.List.Memᴰ
 use mathlib.Core.List.{List, [], ◌∷◌, ◌++◌}
 use mathlib.Core.List.Memᴰ.{head as here}
 use mathlib.Core.List.Memᴰ.{tail as there}
 use mathlib.Core.List.{Memᴰ as In}
-use Prim.Native.Nat.{ℕ, suc, ◌+◌, ◌-◌, ◌*◌, ◌≤◌, ◌<◌}
+use Prim.Native.Nat.{ℕ, ◌+◌, ◌-◌, ◌≤◌, ◌<◌}
 use native.Mathlib.Omega.{arith}
-use lib.ListN.{length, take, length-append}
+use lib.ListN.{length, length-append}
 use lib.Seq.{take_all}
 use lib.Dec.{eqb}
 use borrow.Author.Tests.{eqb-true}
 use Rattle.charts.specs.Chart.{most}
-use Rattle.sweep.specs.Lists.{Pair, upto, keep, place, sort_into, sort, pairs, adjacent, lesser_first, Pairwise}
+use Rattle.sweep.specs.Lists.{upto, place, sort_into, sort, Pairwise}
 use Rattle.sweep.specs.Chart.{Chart, same, at}
-use Rattle.sweep.specs.State.{Marks, State}
+use Rattle.sweep.specs.State.{State}
 use Rattle.sweep.specs.Queue.{beyond, next}
-use Rattle.sweep.specs.Step.{starts, finishes, turns, takes_part, each, report, drop, reported, examine}
-use Rattle.sweep.specs.Step.{pieces as taking, stay as staying, enter as entering, ranged as ranging, examined as examining, step as stepped}
-use Rattle.sweep.specs.Demand.{Pieces}
-use Rattle.sweep.proofs.Tests.{ask, clash, or_one, and_both, neither, not_true}
-use Rattle.sweep.proofs.Lists.{keep_in, keep_out, any_out, pairwise_keep, pairwise_map, pairwise_append}
-use Rattle.sweep.proofs.Pairs.{upto_in, upto_out, upto_up, upto_length, pairs_out, lesser_two, lesser_up, TwoOf, adjacent_out}
-use Rattle.sweep.proofs.Sorting.{place_out, sort_out}
-use Rattle.ported_arrays.specs.Numbers.{end_of, end_at}
-use Rattle.ported_arrays.specs.Insertion.{insert_all, rest}
-use Rattle.ported_arrays.specs.Ledger.{Ledger}
-use Rattle.ported_arrays.specs.Ledger.{report as reports, examine as examines}
-use Rattle.ported_arrays.specs.Event.{Sheet, add, dropped, stay, enter, ranged, examined, step}
-use Rattle.ported_arrays.specs.Event.{here as joining}
-use Rattle.ported_arrays.specs.Agreement.{Ordered, Room, Holds, Agrees}
+use Rattle.sweep.specs.Step.{starts, finishes, turns}
+use Rattle.sweep.specs.Step.{stay as staying, enter as entering, ranged as ranging}
+use Rattle.sweep.proofs.Tests.{clash, or_one, and_both, neither, not_true}
+use Rattle.sweep.proofs.Lists.{keep_out, any_out, pairwise_keep, pairwise_map, pairwise_append}
+use Rattle.sweep.proofs.Pairs.{upto_in, upto_out, upto_up, upto_length}
+use Rattle.sweep.proofs.Sorting.{place_out}
+use Rattle.ported_arrays.specs.Insertion.{insert_all}
+use Rattle.ported_arrays.specs.Event.{Sheet, add, ranged}
+use Rattle.ported_arrays.specs.Agreement.{Ordered, Room, Agrees}
 use Rattle.ported_arrays.proofs.Distinct.{distinct_fit}
 use Rattle.ported_arrays.proofs.Order.{place_pairwise}
-use Rattle.ported_arrays.proofs.Fronts.{same_yes, same_no, beyond_not}
-use Rattle.ported_arrays.proofs.Dropping.{drop_holds}
-use Rattle.ported_arrays.proofs.Passing.{each_holds, report_holds, examine_holds}
+use Rattle.ported_arrays.proofs.Fronts.{same_yes}
 use Rattle.ported_arrays.proofs.Resorting.{resorted}
-use Rattle.ported_arrays.proofs.Nexts.{p_fit, p_beyond, no_end_before, no_crossing_before}
-use Rattle.ported_arrays.proofs.Roles.{ends_left_are}
-use Rattle.ported_arrays.proofs.Taking.{here_is, stay_is, enter_is}
-use Rattle.ported_arrays.proofs.Begun.{Begun, Ahead, AllAhead, reports_ahead, examines_ahead, report_drop, begun_on, beyond_on}
+use Rattle.ported_arrays.proofs.Nexts.{p_fit, p_beyond}
+use Rattle.ported_arrays.proofs.Taking.{stay_is, enter_is}
+use Rattle.ported_arrays.proofs.Begun.{Begun, begun_on}
 
 -- sorting keeps members apart
 into_once : (before : ℕ → ℕ → Bool) (done l : List ℕ) → Pairwise (λ x y. x ≢ y) done → Pairwise (λ x y. x ≢ y) l
@@ -79,7 +71,7 @@ module _ (C : Chart) (O : Ordered C) (places : ℕ) (lent : List ℕ) (R : Room 
   after = p_beyond C O places lent R a s G p taken
 
   pub begun : (i : ℕ) → i < n → beyond C s.last (min i) ≡ false → Begun C p i
-  begun i h e = begun_on C O s.last G.last_Fit p fit after (min i) (O.fit_min i h) e
+  begun i h e = begun_on C O s.last G.last_fit p fit after (min i) (O.fit_min i h) e
 
   pub stay_out : (i : ℕ) → In i (staying C s p) → In i s.active × (finishes C p i ≡ false) × (turns C s p i ≡ false)
   unfolding staying

@@ -1,6 +1,6 @@
 -- The active list and the ends, sorted by insertion from the right.
-use mathlib.Core.Path.{◌≡◌, refl, sym, ap, ◌∙◌, subst}
-use mathlib.Core.Logic.{◌≢◌, ◌⊎◌, inl, inr, ⊎_elim}
+use mathlib.Core.Path.{◌≡◌, refl, sym, ◌∙◌}
+use mathlib.Core.Logic.{◌≢◌, ⊎_elim}
 use mathlib.Core.Bool.{Bool, true, false}
 use mathlib.Core.List.{List, [], ◌∷◌}
 use mathlib.Core.List.Memᴰ.{head as here}
@@ -15,7 +15,7 @@ use Rattle.sweep.proofs.Sorting.{place_out, place_sorted}
 use Rattle.ported_arrays.specs.Insertion.{insert_all}
 use Rattle.ported_arrays.specs.Agreement.{Ordered}
 use Rattle.ported_arrays.proofs.Inserting.{insert_all_sort}
-use Rattle.ported_arrays.proofs.Order.{Up, nearer, place_up, not_after, asym}
+use Rattle.ported_arrays.proofs.Order.{Up, nearer, place_up, not_after}
 
 -- distinct members put in one by one are sorted, by an order that is transitive and total on them
 module _ (before : ℕ → ℕ → Bool) (Ok : ℕ → Type 0) (trans : (x y z : ℕ) → Ok x → Ok y → Ok z → before x y ≡ true → before y z ≡ true → before x z ≡ true)

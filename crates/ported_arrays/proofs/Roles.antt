@@ -1,7 +1,7 @@
 -- Which pieces start, finish or cross at p: the flags say what the definitions say.
 use mathlib.Core.Path.{◌≡◌, refl, sym, ap, ◌∙◌, subst}
-use mathlib.Core.Logic.{◌⊎◌, inl, inr, ⊎_elim}
-use mathlib.Core.Bool.{Bool, true, false, cond, not, ◌&&◌, ◌||◌}
+use mathlib.Core.Logic.{⊎_elim}
+use mathlib.Core.Bool.{Bool, true, false, not, ◌&&◌, ◌||◌}
 use mathlib.Core.Option.{some}
 use mathlib.Core.List.Memᴰ
 use mathlib.Core.List.{List, [], ◌∷◌, map}
@@ -16,18 +16,18 @@ use Rattle.charts.specs.Chart.{most}
 use Rattle.sweep.specs.Lists.{Pair, keep, any}
 use Rattle.sweep.specs.Chart.{Chart, same, at}
 use Rattle.sweep.specs.State.{State}
-use Rattle.sweep.specs.Queue.{beyond, next}
+use Rattle.sweep.specs.Queue.{next}
 use Rattle.sweep.specs.Step.{starts, finishes, turns}
 use Rattle.sweep.proofs.Tests.{ask, same_test, eqb_yes, not_true}
 use Rattle.sweep.proofs.Lists.{keep_in, keep_out, any_in, any_out}
-use Rattle.ported_arrays.specs.Numbers.{cell, pair_of, is_min, end_of, end_at, crossing_at}
-use Rattle.ported_arrays.specs.Insertion.{front, rest}
+use Rattle.ported_arrays.specs.Numbers.{cell, is_min, end_of, end_at}
+use Rattle.ported_arrays.specs.Insertion.{rest}
 use Rattle.ported_arrays.specs.Event.{Sheet, flagged, halves, pieces, ends_here, crossings_here, starting, finishing, turning}
 use Rattle.ported_arrays.specs.Agreement.{flat, Ordered, Room, Agrees}
 use Rattle.ported_arrays.proofs.Cells.{pair_cell}
 use Rattle.ported_arrays.proofs.Fronts.{front_keep, rest_keep, stops, same_yes}
 use Rattle.ported_arrays.proofs.Dropping.{front_is}
-use Rattle.ported_arrays.proofs.Least.{end_min, end_max, end_cases}
+use Rattle.ported_arrays.proofs.Least.{end_min, end_max}
 use Rattle.ported_arrays.proofs.Nexts.{p_fit, p_beyond, no_end_before, no_crossing_before}
 use Rattle.ported_arrays.proofs.Flags.{flagged_is}
 

@@ -1,22 +1,20 @@
 -- A run on arrays is a run of the sweep: after any number of steps the arrays agree with the state.
-use mathlib.Core.Path.{◌≡◌, refl, sym, ap, ◌∙◌, subst}
-use mathlib.Core.Logic.{◌⊎◌, inl, inr, ⊎_elim, ◌≢◌}
-use mathlib.Core.Bool.{Bool, true, false}
+use mathlib.Core.Path.{◌≡◌, refl, subst}
+use mathlib.Core.Logic.{⊎_elim}
 use mathlib.Core.Option.{Option, none, some}
-use mathlib.Core.List.{List, [], ◌∷◌, ◌++◌}
+use mathlib.Core.List.{List}
 use mathlib.Core.List.{Memᴰ as In}
 use Prim.Native.Nat.{ℕ, zero, suc, ◌+◌, ◌*◌, ◌<◌}
 use native.Mathlib.Omega.{arith}
-use lib.ListN.{length, drop, get_or, length-replicate, get_or-replicate}
+use lib.ListN.{length, get_or, length-replicate, get_or-replicate}
 use Rattle.charts.specs.Chart.{most}
-use Rattle.sweep.specs.Lists.{Pair, upto, any, among, sort, Pairwise}
-use Rattle.sweep.specs.Chart.{Chart, at}
+use Rattle.sweep.specs.Lists.{upto, any, among, sort}
+use Rattle.sweep.specs.Chart.{Chart}
 use Rattle.sweep.specs.State.{State}
 use Rattle.sweep.specs.State.{start as begin}
 use Rattle.sweep.specs.Queue.{beyond, next}
 use Rattle.sweep.specs.Run.{move}
 use Rattle.sweep.specs.Run.{move_to as go_to, onwards as going}
-use Rattle.sweep.specs.Demand.{Pieces}
 use Rattle.sweep.proofs.Pairs.{upto_in, upto_out}
 use Rattle.sweep.proofs.Sorting.{sort_in, sort_out}
 use Rattle.ported_arrays.specs.Numbers.{cell, end_of, end_before}

@@ -1,48 +1,36 @@
 -- A step on arrays is a step of the sweep.
-use mathlib.Core.Path.{◌≡◌, refl, sym, ap, ap₂, ◌∙◌, subst}
-use mathlib.Core.Logic.{◌⊎◌, inl, inr, ⊎_elim, ◌≢◌}
-use mathlib.Core.Bool.{Bool, true, false, cond, not, ◌&&◌, ◌||◌}
-use mathlib.Core.Option.{Option, none, some}
-use mathlib.Core.List.{List, [], ◌∷◌, ◌++◌}
-use mathlib.Core.List.Memᴰ.{head as here}
-use mathlib.Core.List.Memᴰ.{tail as there}
+use mathlib.Core.Path.{◌≡◌, refl, sym, ap, ◌∙◌, subst}
+use mathlib.Core.Logic.{⊎_elim, ◌≢◌}
+use mathlib.Core.Bool.{true, not}
+use mathlib.Core.Option.{some}
+use mathlib.Core.List.{List}
 use mathlib.Core.List.{Memᴰ as In}
-use Prim.Native.Nat.{ℕ, suc, ◌+◌, ◌-◌, ◌*◌, ◌≤◌, ◌<◌}
+use Prim.Native.Nat.{ℕ, suc, ◌*◌, ◌<◌}
 use native.Mathlib.Omega.{arith}
-use lib.ListN.{length, take, length-append}
-use lib.Seq.{take_all}
-use lib.Dec.{eqb}
-use borrow.Author.Tests.{eqb-true}
-use Rattle.charts.specs.Chart.{most}
-use Rattle.sweep.specs.Lists.{Pair, upto, keep, place, sort_into, sort, pairs, adjacent, lesser_first, Pairwise}
+use Rattle.sweep.specs.Lists.{Pair, upto, keep, pairs, adjacent, lesser_first, Pairwise}
 use Rattle.sweep.specs.Chart.{Chart, same, at}
 use Rattle.sweep.specs.State.{Marks, State}
 use Rattle.sweep.specs.Queue.{beyond, next}
-use Rattle.sweep.specs.Step.{starts, finishes, turns, takes_part, each, report, drop, reported, examine}
-use Rattle.sweep.specs.Step.{pieces as taking, stay as staying, enter as entering, ranged as ranging, examined as examining, step as stepped}
+use Rattle.sweep.specs.Step.{takes_part, report, drop, reported, examine}
+use Rattle.sweep.specs.Step.{pieces as taking, stay as staying, ranged as ranging, examined as examining, step as stepped}
 use Rattle.sweep.specs.Demand.{Pieces}
-use Rattle.sweep.proofs.Tests.{ask, clash, or_one, and_both, neither, not_true}
-use Rattle.sweep.proofs.Lists.{keep_in, keep_out, any_out, pairwise_keep, pairwise_map, pairwise_append}
-use Rattle.sweep.proofs.Pairs.{upto_in, upto_out, upto_up, upto_length, pairs_out, lesser_two, lesser_up, TwoOf, adjacent_out}
-use Rattle.sweep.proofs.Sorting.{place_out, sort_out}
+use Rattle.sweep.proofs.Tests.{not_true}
+use Rattle.sweep.proofs.Lists.{keep_in, keep_out, pairwise_keep}
+use Rattle.sweep.proofs.Pairs.{upto_out, upto_up, pairs_out, lesser_two, lesser_up, adjacent_out}
+use Rattle.sweep.proofs.Sorting.{sort_out}
 use Rattle.ported_arrays.specs.Numbers.{end_of, end_at}
-use Rattle.ported_arrays.specs.Insertion.{insert_all, rest}
-use Rattle.ported_arrays.specs.Ledger.{Ledger}
+use Rattle.ported_arrays.specs.Insertion.{rest}
 use Rattle.ported_arrays.specs.Ledger.{report as reports, examine as examines}
-use Rattle.ported_arrays.specs.Event.{Sheet, add, dropped, stay, enter, ranged, examined, step}
-use Rattle.ported_arrays.specs.Event.{here as joining}
+use Rattle.ported_arrays.specs.Event.{Sheet, dropped, examined, step}
 use Rattle.ported_arrays.specs.Agreement.{Ordered, Room, Holds, Agrees}
-use Rattle.ported_arrays.proofs.Distinct.{distinct_fit}
-use Rattle.ported_arrays.proofs.Order.{place_pairwise}
-use Rattle.ported_arrays.proofs.Fronts.{same_yes, same_no, beyond_not}
+use Rattle.ported_arrays.proofs.Fronts.{same_no, beyond_not}
 use Rattle.ported_arrays.proofs.Dropping.{drop_holds}
 use Rattle.ported_arrays.proofs.Passing.{each_holds, report_holds, examine_holds}
-use Rattle.ported_arrays.proofs.Resorting.{resorted}
 use Rattle.ported_arrays.proofs.Least.{end_fit}
-use Rattle.ported_arrays.proofs.Nexts.{p_fit, p_beyond, no_end_before, no_crossing_before}
+use Rattle.ported_arrays.proofs.Nexts.{no_end_before, no_crossing_before}
 use Rattle.ported_arrays.proofs.Roles.{ends_left_are}
-use Rattle.ported_arrays.proofs.Taking.{here_is, stay_is, enter_is}
-use Rattle.ported_arrays.proofs.Begun.{Begun, Ahead, AllAhead, reports_ahead, examines_ahead, report_drop, begun_on, beyond_on}
+use Rattle.ported_arrays.proofs.Taking.{here_is, stay_is}
+use Rattle.ported_arrays.proofs.Begun.{Begun, AllAhead, reports_ahead, examines_ahead, report_drop, beyond_on}
 use Rattle.ported_arrays.proofs.Ranging.{sort_once, fit, after, begun, stay_out, stay_begun, both, both_once, both_below, both_begun, ranged_is}
 
 module _ (C : Chart) (O : Ordered C) (places : ℕ) (lent : List ℕ) (R : Room C places lent) (a : Sheet C) (s : State C) (G : Agrees C O places lent a s)

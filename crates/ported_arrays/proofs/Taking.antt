@@ -1,25 +1,25 @@
 -- The pieces at p on arrays are those of the definition, in number order; so are those that stay and that enter.
 use mathlib.Core.Path.{◌≡◌, refl, sym, ap, ap₂, ◌∙◌, subst}
-use mathlib.Core.Logic.{◌⊎◌, inl, inr, ⊎_elim, ◌≢◌}
-use mathlib.Core.Bool.{Bool, true, false, cond, not, ◌&&◌, ◌||◌}
+use mathlib.Core.Logic.{◌⊎◌, inl, inr, ⊎_elim}
+use mathlib.Core.Bool.{Bool, true, false, not, ◌&&◌, ◌||◌}
 use mathlib.Core.Option.{some}
 use mathlib.Core.List.Memᴰ
 use mathlib.Core.List.{List, [], ◌∷◌, ◌++◌, map}
 use mathlib.Core.List.Memᴰ.{head as here}
 use mathlib.Core.List.Memᴰ.{tail as there}
 use mathlib.Core.List.{Memᴰ as In}
-use Prim.Native.Nat.{ℕ, ◌+◌, ◌*◌, ◌/◌, ◌≤◌, ◌<◌}
+use Prim.Native.Nat.{ℕ, ◌/◌, ◌<◌}
 use native.Mathlib.Omega.{arith}
 use lib.Dec.{eqb}
 use borrow.Author.Tests.{eqb-true}
 use Rattle.charts.specs.Chart.{most}
-use Rattle.sweep.specs.Lists.{Pair, upto, keep, any, Pairwise}
-use Rattle.sweep.specs.Chart.{Chart, same, at}
+use Rattle.sweep.specs.Lists.{Pair, upto, keep, any}
+use Rattle.sweep.specs.Chart.{Chart}
 use Rattle.sweep.specs.State.{State}
 use Rattle.sweep.specs.Queue.{next}
 use Rattle.sweep.specs.Step.{starts, finishes, turns, takes_part}
 use Rattle.sweep.specs.Step.{pieces as taking, stay as staying, enter as entering}
-use Rattle.sweep.proofs.Tests.{ask, clash, eqb_yes, or_one, or_left, or_right, and_both}
+use Rattle.sweep.proofs.Tests.{ask, eqb_yes, or_one, or_left, or_right, and_both}
 use Rattle.sweep.proofs.Lists.{keep_in, keep_out, keep_keep, keep_same, any_in, any_out, pairwise_keep}
 use Rattle.sweep.proofs.Pairs.{upto_in, upto_out, upto_up}
 use Rattle.ported_arrays.specs.Insertion.{join_all}
@@ -27,7 +27,7 @@ use Rattle.ported_arrays.specs.Event.{Sheet, flagged, halves, pieces, ends_here,
 use Rattle.ported_arrays.specs.Event.{here as joining}
 use Rattle.ported_arrays.specs.Numbers.{is_min, end_at}
 use Rattle.ported_arrays.specs.Agreement.{flat, Ordered, Room, Agrees}
-use Rattle.ported_arrays.proofs.Joining.{Joined, ascending_one, joined_all}
+use Rattle.ported_arrays.proofs.Joining.{ascending_one, joined_all}
 use Rattle.ported_arrays.proofs.Roles.{ends_here_are, starting_any, finishing_any, starting_is, finishing_is, gone, crossing_pieces, turning_any, turning_is}
 
 any_eq : (i : ℕ) {l : List ℕ} → In i l → any (eqb i) l ≡ true

@@ -1,26 +1,26 @@
 -- A free pair that crosses begins to wait, in the ledger as in the state.
 use mathlib.Core.Path.{◌≡◌, refl, sym, ap, ap₂, ◌∙◌}
-use mathlib.Core.Logic.{◌≢◌, ◌⊎◌, inl, inr, ⊎_elim}
+use mathlib.Core.Logic.{◌≢◌, ⊎_elim}
 use mathlib.Core.Bool.{Bool, true, false, cond}
 use mathlib.Core.List.{List, [], ◌∷◌, map}
 use mathlib.Core.List.Memᴰ.{head as here}
 use mathlib.Core.List.Memᴰ.{tail as there}
 use mathlib.Core.List.{Memᴰ as In}
-use Prim.Native.Nat.{ℕ, suc, ◌+◌, ◌-◌, ◌*◌, ◌≤◌, ◌<◌}
+use Prim.Native.Nat.{ℕ, suc, ◌-◌, ◌<◌}
 use native.Mathlib.Omega.{arith}
 use lib.Dec.{eqb}
 use lib.ListN.{length, set, get_or, length-set}
 use borrow.Author.Tests.{eqb-true}
 use Rattle.charts.specs.Chart.{most}
-use Rattle.sweep.specs.Lists.{Pair, among, place, Pairwise}
+use Rattle.sweep.specs.Lists.{Pair, among, place}
 use Rattle.sweep.specs.Chart.{Chart, crosses, kind, at}
 use Rattle.sweep.specs.State.{Marks}
 use Rattle.sweep.specs.Step.{wait}
 use Rattle.sweep.specs.Demand.{Pieces}
-use Rattle.sweep.proofs.Tests.{ask, clash, same_test}
+use Rattle.sweep.proofs.Tests.{ask, same_test}
 use Rattle.sweep.proofs.Sorting.{place_in, place_out}
 use Rattle.sweep.proofs.Pairs.{among_in, among_out, among_no}
-use Rattle.ported_arrays.specs.Numbers.{cell, pair_of, crossing_before}
+use Rattle.ported_arrays.specs.Numbers.{cell, crossing_before}
 use Rattle.ported_arrays.specs.Ledger.{Ledger, mark}
 use Rattle.ported_arrays.specs.Ledger.{wait as queue}
 use Rattle.ported_arrays.specs.Agreement.{mark_of, Ordered, Once, Room, Holds}

@@ -1,12 +1,12 @@
 -- When the arrays of a step agree with the state of `sweep`, and what an order of points has to keep for that.
-use Rattle.std.specs.Prelude.{◌≡◌, ◌≢◌, Bool, true, false, cond, List, [], ◌∷◌, ◌++◌, map, ℕ, ◌+◌, ◌*◌, ◌≤◌, ◌<◌, length, drop}
+use Rattle.std.specs.Prelude.{◌≡◌, ◌≢◌, true, false, cond, List, ◌++◌, map, ℕ, ◌+◌, ◌*◌, ◌≤◌, ◌<◌, length, drop}
 use mathlib.Core.List.{Memᴰ as In}
 use Rattle.std.proofs.Math.Option.{some}
 use Rattle.charts.specs.Chart.{most}
 -- the bytes of a list of pairs; here `bytes` are those lent
 unfoldable pub use Rattle.charts.specs.PairList.{bytes as flat}
 use Rattle.sweep.specs.Lists.{Pair, among, Pairwise}
-use Rattle.sweep.specs.Chart.{Kind, crosses, Chart, kind, at}
+use Rattle.sweep.specs.Chart.{crosses, Chart, kind, at}
 use Rattle.sweep.specs.Sought.{all}
 use Rattle.sweep.specs.State.{Marks, State}
 use Rattle.sweep.specs.Queue.{beyond}

@@ -1,8 +1,8 @@
 -- One step on arrays, at a point p that is the least of the ends and crossings that are left.
 use Rattle.std.specs.Prelude.{Bool, cond, not, ◌&&◌, ◌||◌, List, [], ◌∷◌, ◌++◌, map, ℕ, suc, ◌+◌, ◌-◌, ◌/◌, eqb, length, get_or, set, take, replicate}
-use Rattle.std.proofs.Math.Option.{Option, none, some}
+use Rattle.std.proofs.Math.Option.{Option, some}
 use Rattle.charts.specs.Chart.{most}
-use Rattle.sweep.specs.Lists.{Pair, keep, pairs, adjacent}
+use Rattle.sweep.specs.Lists.{keep, pairs, adjacent}
 use Rattle.sweep.specs.Chart.{Chart}
 use Rattle.sweep.specs.Step.{each}
 use Rattle.ported_arrays.specs.Numbers.{pair_of, is_min, end_at, crossing_at}

@@ -1,6 +1,6 @@
 -- The pairs of the chart on arrays: a mark for each (0 free, 1 waiting, 2 listed), the waiting ones in the order of their
 -- crossings with so many places to spare, and the lent bytes, of which those before `end` hold the list.
-use Rattle.std.specs.Prelude.{Bool, cond, not, ◌&&◌, List, [], ◌∷◌, ℕ, ◌+◌, ◌-◌, eqb, ltb, length, get_or, set}
+use Rattle.std.specs.Prelude.{cond, not, ◌&&◌, List, ℕ, ◌+◌, ◌-◌, eqb, ltb, length, get_or, set}
 use Rattle.sweep.specs.Lists.{Pair, place}
 use Rattle.sweep.specs.Chart.{Kind, nothing, crosses, overlaps, Chart, meets, kind, at}
 use Rattle.ported_arrays.specs.Numbers.{cell, crossing_before}

@@ -1,5 +1,5 @@
 -- A run on arrays.
-use Rattle.std.specs.Prelude.{Bool, cond, List, [], ◌∷◌, ℕ, zero, suc, ◌+◌, ◌*◌, replicate}
+use Rattle.std.specs.Prelude.{cond, List, [], ◌∷◌, ℕ, zero, suc, ◌*◌, replicate}
 use Rattle.std.proofs.Math.Option.{Option, none, some}
 use Rattle.charts.specs.Chart.{most}
 use Rattle.sweep.specs.Lists.{upto}
