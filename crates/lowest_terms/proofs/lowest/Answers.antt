@@ -11,17 +11,18 @@ use Rattle.fractions.specs.Point.{common, lowest_of}
 use Rattle.fractions.proofs.Quotient.{same_record}
 use Rattle.fractions.proofs.LowestTerms.{already_lowest}
 use Rattle.lowest_terms.proofs.lowest.Goals as goal
+use Rattle.lowest_terms.proofs.lowest.Goals.{Start, After-gcd-g}
 
 -- the divisor found, and the numbers read back from their bits
-module _ (c : goal.After-gcd-g) where
-  abbrev start : goal.Start
+module _ (c : After-gcd-g) where
+  abbrev start : Start
   start = c.before.before.before.before
 
   x_is : to_z w64 (of_z w64 start.args.x) ≡ start.args.x
-  x_is = to_z-of_z w64 start.args.x start.fits.x
+  x_is = to_z-of_z w64 start.args.x start.ranges.x
 
   y_is : to_z w64 (of_z w64 start.args.y) ≡ start.args.y
-  y_is = to_z-of_z w64 start.args.y start.fits.y
+  y_is = to_z-of_z w64 start.args.y start.ranges.y
 
   g_is : c.gcd-g.result ≡ common start.args.x start.args.y start.args.d
   unfolding common
@@ -39,6 +40,6 @@ unfolding lowest_of
 returns c =
     let g = g_is c.before.before.before in
     same_record
-    (to_z-of_z w64 c.part.result (record { sfits = c.part.type-inv }) ∙ c.part.ensures ∙ ap₂ (λ (x : ℤ) (n : ℕ). quot_z x (pos n)) (x_is c.before.before.before) g)
-    (to_z-of_z w64 c.part-2.result (record { sfits = c.part-2.type-inv }) ∙ c.part-2.ensures ∙ ap₂ (λ (y : ℤ) (n : ℕ). quot_z y (pos n)) (y_is c.before.before.before) g)
+    (to_z-of_z w64 c.part.result (record { sfits = c.part.type_inv }) ∙ c.part.ensures ∙ ap₂ (λ (x : ℤ) (n : ℕ). quot_z x (pos n)) (x_is c.before.before.before) g)
+    (to_z-of_z w64 c.part-2.result (record { sfits = c.part-2.type_inv }) ∙ c.part-2.ensures ∙ ap₂ (λ (y : ℤ) (n : ℕ). quot_z y (pos n)) (y_is c.before.before.before) g)
     (ap (λ (n : ℕ). (start c.before.before.before).args.d / n) g)
