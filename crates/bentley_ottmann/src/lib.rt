@@ -12,7 +12,7 @@ use charts::{MOST, Verdict};
 use ported_run::Last;
 
 // What a sweep returns; `pairs` is the count of those listed.
-#[derive(Drop)]
+#[derive(Clone, Copy)]
 pub struct Swept {
     // 0 where the call is done, else the refusal
     pub number: u8,

@@ -20,7 +20,7 @@ use supplied::Checked;
 
 // An end of a stretch.
 #[repr(C)]
-#[derive(Drop)]
+#[derive(Clone, Copy)]
 pub struct End {
     pub x: i16,
     pub y: i16,
@@ -30,7 +30,7 @@ pub struct End {
 // How two pieces meet: `meets` is 0 for nothing, 1 for a crossing and 2 for an overlap, whose stretch runs from
 // `min` to `max`.
 #[repr(C)]
-#[derive(Drop)]
+#[derive(Clone, Copy)]
 pub struct Met {
     pub number: u8,
     pub place: usize,
@@ -42,7 +42,7 @@ pub struct Met {
 // Where two pieces meet, in binary64: `meets` is 0 for nothing, 1 at x1, y1, the one shared point, and 2 along from
 // there to x2, y2.
 #[repr(C)]
-#[derive(Drop)]
+#[derive(Clone, Copy)]
 pub struct Placed {
     pub number: u8,
     pub place: usize,
@@ -55,7 +55,7 @@ pub struct Placed {
 
 // What a sweep returns; where `visited`, the last point is x/d, y/d.
 #[repr(C)]
-#[derive(Drop)]
+#[derive(Clone, Copy)]
 pub struct SweptFields {
     pub number: u8,
     pub place: usize,
@@ -73,7 +73,7 @@ pub struct SweptFields {
 // What is said of a supplier's list: `says` is 1 where it is accepted, 2 where entry `first` has fault `second`, and 3
 // where the pair of pieces `first` and `second` is missing.
 #[repr(C)]
-#[derive(Drop)]
+#[derive(Clone, Copy)]
 pub struct CheckedFields {
     pub number: u8,
     pub place: usize,
@@ -84,7 +84,7 @@ pub struct CheckedFields {
 
 // Where a peak lies to a region: `region` is 0 for none, 1 for on, 2 for inside and 3 for outside.
 #[repr(C)]
-#[derive(Drop)]
+#[derive(Clone, Copy)]
 pub struct Located {
     pub number: u8,
     pub place: usize,
@@ -93,7 +93,7 @@ pub struct Located {
 
 // How a half-line meets a piece: `meets` is 0 for nothing and 1 for a crossing, which carries `turn`.
 #[repr(C)]
-#[derive(Drop)]
+#[derive(Clone, Copy)]
 pub struct HalfMet {
     pub number: u8,
     pub place: usize,

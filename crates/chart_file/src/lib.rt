@@ -13,21 +13,21 @@ pub const GROUPS: usize = 3;
 pub const LONGEST: usize = 2 + (1 + 4 * GROUPS) * MOST;
 
 // What stands in groups at a place: a number and the place after it, or why it is refused.
-#[derive(Drop)]
+#[derive(Clone, Copy)]
 pub enum Groups {
     Value(u32, usize),
     Fault(u8),
 }
 
 // A number of the list and the place after it, or why it is refused.
-#[derive(Drop)]
+#[derive(Clone, Copy)]
 pub enum Number {
     Read(i32, usize),
     Refused(u8),
 }
 
 // Where reading the pieces stopped: with number 0 after the last of them, else at the first refusal.
-#[derive(Drop)]
+#[derive(Clone, Copy)]
 pub struct Stop {
     pub number: u8,
     pub place: usize,

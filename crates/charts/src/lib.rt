@@ -11,7 +11,7 @@ pub const MOST: usize = 200;
 pub const RANGE: i32 = 32767;
 
 // What is said of a list before any work on it.
-#[derive(Drop)]
+#[derive(Clone, Copy)]
 pub enum Verdict {
     // a chart of so many pieces
     Accepted(usize),
@@ -21,7 +21,7 @@ pub enum Verdict {
 
 // What the reader and the writer of a file and the calls that list pairs return.
 #[repr(C)]
-#[derive(Drop)]
+#[derive(Clone, Copy)]
 pub struct Answer {
     // 0 where the call is done, else the refusal
     pub number: u8,
@@ -31,7 +31,7 @@ pub struct Answer {
 }
 
 // What the test of two pieces returns: the meeting is nothing where the call is refused.
-#[derive(Drop)]
+#[derive(Clone, Copy)]
 pub struct MeetingAnswer {
     pub number: u8,
     pub place: usize,

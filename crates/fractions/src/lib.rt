@@ -3,7 +3,7 @@
 #![tactic(auto)]
 
 // Which of two is less.
-#[derive(Drop)]
+#[derive(Clone, Copy)]
 pub enum Order {
     Less,
     Equal,
@@ -11,7 +11,7 @@ pub enum Order {
 }
 
 // A fraction by sign and size: `over` above the line, below 0 where `negative`, and `under` below it.
-#[derive(Drop)]
+#[derive(Clone, Copy)]
 pub struct Fraction {
     pub negative: bool,
     pub over: u64,
@@ -19,7 +19,7 @@ pub struct Fraction {
 }
 
 // The point x/d, y/d.
-#[derive(Drop)]
+#[derive(Clone, Copy)]
 pub struct Point {
     pub x: i64,
     pub y: i64,

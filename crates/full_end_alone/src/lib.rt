@@ -13,7 +13,7 @@ use full_points::Spot;
 use full_replace::{put_in, take_out};
 
 // What one end does that stands alone at a point: its piece is the only one there, and enters or leaves.
-#[derive(Drop)]
+#[derive(Clone, Copy)]
 pub enum Alone {
     Enters,
     Leaves,

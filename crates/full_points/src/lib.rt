@@ -17,7 +17,7 @@ use line_segment::LineSegment;
 use segment_crossing::{rise, run};
 
 // x is wx + rx / d and y is wy + ry / d, counted from -32,768.
-#[derive(Drop)]
+#[derive(Clone, Copy)]
 pub struct Spot {
     pub wx: u64,
     pub rx: u64,

@@ -8,7 +8,7 @@ use fractions::Point;
 use ported_run::Last;
 
 // Where a run stops: the end of the list, the steps done, whether the queue is empty, and the last point.
-#[derive(Drop)]
+#[derive(Clone, Copy)]
 pub struct Stop {
     pub end: usize,
     pub steps: u32,

@@ -3,7 +3,7 @@
 #![tactic(auto)]
 
 // How many pieces are active now, and where the list ends.
-#[derive(Drop)]
+#[derive(Clone, Copy)]
 pub struct At {
     pub live: usize,
     pub end: usize,

@@ -10,7 +10,7 @@ use full_least::meeting_at;
 use full_next::next_lane;
 
 // Where a visit leaves a run: the ends passed, the pieces active, where the list ends; and the point, in lowest terms or not.
-#[derive(Drop)]
+#[derive(Clone, Copy)]
 pub struct Visited {
     pub passed: usize,
     pub live: usize,

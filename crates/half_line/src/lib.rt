@@ -11,21 +11,21 @@ use orientation::Orientation;
 
 // What a half-line and a piece have in common. Crossing carries CoLinear where the ends lie on both sides of the line,
 // and else the side of the one end that is not on it.
-#[derive(Drop)]
+#[derive(Clone, Copy)]
 pub enum IHalfLineLineSegmentSoS {
     Nothing,
     Crossing(Orientation),
 }
 
 // A point of a chart.
-#[derive(Drop)]
+#[derive(Clone, Copy)]
 pub struct Corner {
     pub x: i16,
     pub y: i16,
 }
 
 // What the half-line's call returns: zero where it is done, else the number of a refusal, whose place is zero.
-#[derive(Drop)]
+#[derive(Clone, Copy)]
 pub struct HalfLineAnswer {
     pub number: u8,
     pub meeting: IHalfLineLineSegmentSoS,

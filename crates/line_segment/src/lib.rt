@@ -3,7 +3,7 @@
 #![tactic(auto)]
 
 // An end of a piece: its point, and whether the piece has that point.
-#[derive(Drop)]
+#[derive(Clone, Copy)]
 pub struct EndPoint {
     pub x: i16,
     pub y: i16,
@@ -11,14 +11,14 @@ pub struct EndPoint {
 }
 
 // A piece, from its lesser end to its greater.
-#[derive(Drop)]
+#[derive(Clone, Copy)]
 pub struct LineSegment {
     pub min: EndPoint,
     pub max: EndPoint,
 }
 
 // What two pieces have in common: nothing, one point of lines that cross, or a stretch of one line.
-#[derive(Drop)]
+#[derive(Clone, Copy)]
 pub enum Meeting {
     Nothing,
     Crossing,

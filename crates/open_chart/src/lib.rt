@@ -10,7 +10,7 @@ pub const NUMBERS: usize = 5 * PLACES;
 
 // What a change returns.
 #[repr(C)]
-#[derive(Drop)]
+#[derive(Clone, Copy)]
 pub struct Changed {
     // 0 where the change is done, else the refusal
     pub number: u8,

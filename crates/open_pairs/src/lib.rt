@@ -14,7 +14,7 @@ use open_changes::is_used;
 use open_chart::{NUMBERS, PLACES};
 
 // The pieces of the used places, in order, and the numbers of those places.
-#[derive(Drop)]
+#[derive(Clone, Copy)]
 pub struct Standing {
     pub all: [LineSegment; MOST],
     pub names: [u8; PLACES],

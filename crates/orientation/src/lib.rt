@@ -5,7 +5,7 @@ ghost use Rattle.std.specs.Prelude.{◌≡◌, ◌-ℤ◌};
 ghost use Rattle.orientation.specs.Turn.{det, turn_of, reversed, is_left, is_right, is_straight, same_turn};
 
 // The turn on the way from the first point over the second to the third.
-#[derive(Drop)]
+#[derive(Clone, Copy)]
 pub enum Orientation {
     CounterClockWise,
     ClockWise,

@@ -4,14 +4,14 @@
 use fractions::Point;
 
 // A point in binary64.
-#[derive(Drop)]
+#[derive(Clone, Copy)]
 pub struct PlacePoint {
     pub x: f64,
     pub y: f64,
 }
 
 // Where two pieces meet, exactly.
-#[derive(Drop)]
+#[derive(Clone, Copy)]
 pub enum Where {
     Nothing,
     At(Point),
@@ -19,7 +19,7 @@ pub enum Where {
 }
 
 // The same in binary64.
-#[derive(Drop)]
+#[derive(Clone, Copy)]
 pub enum Place {
     Nothing,
     At(PlacePoint),
@@ -28,7 +28,7 @@ pub enum Place {
 
 // What the pair call answers: the number and the place of a refusal, zero where it is done, and
 // the place of the meeting.
-#[derive(Drop)]
+#[derive(Clone, Copy)]
 pub struct PlaceAnswer {
     pub number: u8,
     pub place: usize,

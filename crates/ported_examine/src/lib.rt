@@ -15,7 +15,7 @@ use line_segment::Meeting;
 use ported_ledger::{FREE, cell_of, list_pair, mark_at, wait_pair};
 
 // Where the waiting pairs begin and where the list ends.
-#[derive(Drop)]
+#[derive(Clone, Copy)]
 pub struct Places {
     pub head: usize,
     pub end: usize,

@@ -13,7 +13,7 @@ use fractions::Point;
 use ported_queue::Next;
 
 // The last point visited, or none.
-#[derive(Drop)]
+#[derive(Clone, Copy)]
 pub enum Last {
     None,
     At(Point),
@@ -21,7 +21,7 @@ pub enum Last {
 
 // Where a run stops: the end of the list, the steps done, whether the queue is empty, the last point, and how many adjacent
 // pairs were examined.
-#[derive(Drop)]
+#[derive(Clone, Copy)]
 pub struct Stop {
     pub end: usize,
     pub steps: u32,

@@ -10,7 +10,7 @@ use ported_examine::examine_all;
 use ported_report::report_all;
 
 // How many pieces stayed and are active, where the waiting pairs begin and where the list ends.
-#[derive(Drop)]
+#[derive(Clone, Copy)]
 pub struct Turned {
     pub stay: usize,
     pub live: usize,
@@ -56,7 +56,7 @@ fn turn(
 }
 
 // How many ends are passed, pieces stayed and are active, where the waiting pairs begin and where the list ends.
-#[derive(Drop)]
+#[derive(Clone, Copy)]
 pub struct At {
     pub passed: usize,
     pub stay: usize,

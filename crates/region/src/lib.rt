@@ -2,7 +2,7 @@
 // Where a peak lies to a region; none where the region is refused.
 #![tactic(auto)]
 
-#[derive(Drop)]
+#[derive(Clone, Copy)]
 pub enum Region {
     None,
     On,
@@ -11,7 +11,7 @@ pub enum Region {
 }
 
 // What the region's call returns: zero where it is done, else the number and the place of a refusal.
-#[derive(Drop)]
+#[derive(Clone, Copy)]
 pub struct RegionAnswer {
     pub number: u8,
     pub place: usize,

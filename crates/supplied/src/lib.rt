@@ -2,7 +2,7 @@
 // What is said of a supplier's list.
 #![tactic(auto)]
 
-#[derive(Drop)]
+#[derive(Clone, Copy)]
 pub enum Checked {
     Accepted,
     // the first entry at fault, counted from 0, and which of the four faults it has
@@ -14,7 +14,7 @@ pub enum Checked {
 }
 
 // The first of a list of two numbers each.
-#[derive(Drop)]
+#[derive(Clone, Copy)]
 pub enum First {
     None,
     At(usize, usize),

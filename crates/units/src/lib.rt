@@ -5,14 +5,14 @@ ghost use Rattle.std.specs.Prelude.{◌≡◌, ◌<◌};
 ghost use Rattle.units.specs.Units.{Divided, units_of};
 
 // The greatest whole unit not above a value and the least not below it.
-#[derive(Drop)]
+#[derive(Clone, Copy)]
 pub struct Between {
     pub low: i64,
     pub high: i64,
 }
 
 // The greatest whole number not above a fraction, and what is left above the line.
-#[derive(Drop)]
+#[derive(Clone, Copy)]
 struct Parts {
     whole: i64,
     rest: u64,

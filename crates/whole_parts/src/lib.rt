@@ -9,7 +9,7 @@ ghost use Rattle.fractions.specs.Fraction.{ratio_order};
 use fractions::Order;
 
 // A fraction below 0 is -whole and rest over the number under its line: -whole is its floor.
-#[derive(Drop)]
+#[derive(Clone, Copy)]
 struct Floor {
     whole: u64,
     rest: u64,
