@@ -1,6 +1,6 @@
 -- What stands in groups at a place is read in one way: a number from its groups, and its groups from the number.
 use mathlib.Core.Path.{◌≡◌, sym, ap, ◌∙◌}
-use mathlib.Core.Bool.{false, ◌&&◌, and_false}
+use mathlib.Core.Bool.{false, ◌&&◌, and-false}
 use mathlib.Core.List.{List, [], ◌∷◌, ◌++◌}
 use Prim.Native.Nat.{ℕ, zero, suc, ◌+◌, ◌*◌, ◌%◌, ◌^◌, ◌≤◌, ◌<◌}
 use native.Mathlib.Nat.{pow-suc}
@@ -27,7 +27,7 @@ marked_front (b ∷ gs) u m = elim (dec_lt b 128) [
 -- The last of several groups is not zero, as the test says it.
 pub not_padded : (m b : ℕ) → (0 < m → b ≡ 0 → ⊥) → (ltb 0 m && eqb b 0) ≡ false
 not_padded zero b z = rw (le-ltb 0 0 (omega arith))
-not_padded (suc m) b z = rw (ne_eqb b 0 (z (omega arith))) (and_false (ltb 0 (suc m)))
+not_padded (suc m) b z = rw (ne_eqb b 0 (z (omega arith))) (and-false (ltb 0 (suc m)))
 
 -- Canonical groups are read as their number, whatever follows.
 pub canonical_read : (k : ℕ) (s : List ℕ) (at : ℕ) (gs u : List ℕ) → Canonical gs → length gs ≤ k → drop at s ≡ gs ++ u → groups_at k s at ≡ Value (value gs) (at + length gs)

@@ -2,14 +2,13 @@
 use mathlib.Core.Path.{◌≡◌, refl, ap, ◌∙◌}
 use mathlib.Core.List.{List, [], ◌∷◌}
 use Prim.Native.Nat.{ℕ, suc, ◌*◌, ◌/◌, ◌≤◌, ◌<◌, zero-le}
-use native.Mathlib.Omega.{arith}
 use lib.IntN.{ℤ}
 use lib.ListN.{length, get_or}
 use Rattle.charts.specs.Chart.{most}
 use Rattle.charts.specs.declared.Answer.{Answer}
 use Rattle.charts.proofs.Accepted.{accepted_most}
 use Rattle.chart_file.specs.Groups.{Bytes}
-use Rattle.chart_file.specs.Reading.{Reading, due, stopped, reading_of, lent_reading, answer_of, Reads}
+use Rattle.chart_file.specs.Reading.{Reading, due, stopped, reading_of, answer_of, Reads}
 use Rattle.chart_file.proofs.Files.{reads_file}
 use Rattle.chart_file.proofs.Whole.{lent_exactly}
 

@@ -1,6 +1,6 @@
 -- A coordinate and the number that it is stored as determine each other, and the range of one is a range of the other.
 use mathlib.Core.Path.{◌≡◌, refl, sym, ap, ◌∙◌}
-use mathlib.Core.Bool.{Bool, true, false, or_false}
+use mathlib.Core.Bool.{Bool, true, false, or-false}
 use Prim.Native.Nat.{ℕ, suc, ◌+◌, ◌*◌, ◌/◌, ◌%◌, ◌≤◌, ◌<◌}
 use native.Mathlib.Decide.{dec_lt}
 use native.Mathlib.Omega.{arith}
@@ -48,7 +48,7 @@ pub outside_stored : (u : ℕ) → outside (neg_ℤ range) range (signed_of u) �
 unfolding outside
 outside_stored u = by_parity u
     (λ e. rw (signed_even u e) (same_test 32767 (u / 2) 65534 u (λ h. omega arith) (λ h. omega arith)))
-    (λ e. rw (signed_odd u e) (or_false (ltb 32766 (u / 2)) ∙ same_test 32766 (u / 2) 65534 u (λ h. omega arith) (λ h. omega arith)))
+    (λ e. rw (signed_odd u e) (or-false (ltb 32766 (u / 2)) ∙ same_test 32766 (u / 2) 65534 u (λ h. omega arith) (λ h. omega arith)))
 
 pub turned_back : TurnedBack
 turned_back = (signed_stored, stored_signed)

@@ -6,7 +6,7 @@ use native.Mathlib.Omega.{arith}
 use borrow.Author.Tests.{ltb-false}
 use lib.IntN.{ℤ, pos, neg_ℤ, nat_abs}
 use lib.ListN.{length, get_or, drop, set, length-append}
-use lib.Seq.{sets, length-sets, drop-cons, drop_length}
+use lib.Seq.{sets, length-sets, drop-cons, drop-length}
 use Rattle.charts.specs.Fault.{range, outside}
 use Rattle.charts.proofs.Rows.{is_false, says_outside}
 use Rattle.charts.proofs.Ranges.{kind_in}
@@ -98,5 +98,5 @@ module _ (list : List ℤ) (at : ℕ) (before : List ℕ) (i next : ℕ) (now : 
   pub no_rest : i ≡ length list → (next ≡ at + length (bytes_from 0 list)) × (now ≡ sets before at (bytes_from 0 list))
   unfolding bytes_from
   no_rest e =
-      let d : drop i list ≡ [] = rw e (drop_length list) in
+      let d : drop i list ≡ [] = rw e (drop-length list) in
       (omega (arith, rw d at w.place), rw d at w.ends)

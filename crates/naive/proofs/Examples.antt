@@ -1,7 +1,6 @@
 -- The charts of docs/CHART.md, listed by the definitions.
 use mathlib.Core.Path.{◌≡◌, refl}
-use mathlib.Core.List.{List, [], ◌∷◌, ◌++◌}
-use Prim.Native.Nat.{ℕ}
+use mathlib.Core.List.{List, [], ◌∷◌}
 use lib.IntN.{ℤ, pos, negsuc}
 use Rattle.orientation.specs.Turn.{det, turn_of}
 use Rattle.fractions.specs.Order.{order}

@@ -17,7 +17,7 @@ use Rattle.line_segment.specs.declared.LineSegment.{LineSegment}
 use Rattle.line_segment.specs.declared.Meeting.{Meeting}
 use Rattle.line_segment.specs.declared.Meeting.TheVariants.{Nothing, Crossing, Overlap}
 use Rattle.line_segment.specs.Piece.{HasLength, point_of, end_order, closed}
-use Rattle.line_segment.specs.Geometry.{run, rise, side, LiesOn, Common, OneLine}
+use Rattle.line_segment.specs.Geometry.{run, rise, side, Common, OneLine}
 use Rattle.line_segment.specs.Segment.{stretch_by, stretch_of, intersect_of, crossing_of}
 use Rattle.line_segment.specs.Demand.{says_yes, says_overlap, CommonPart}
 use Rattle.line_segment.proofs.Booleans.{no, clash}
