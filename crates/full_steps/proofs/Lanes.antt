@@ -11,7 +11,7 @@ use native.Mathlib.Omega.{arith}
 use lib.ListN.{length, take, drop, length-append}
 use Rattle.fractions.specs.declared.Order.TheVariants.{Equal}
 use Rattle.sweep.specs.Lists.{Pair, adjacent, Pairwise}
-use Rattle.sweep.specs.Chart.{crosses, Chart, kind, at}
+use Rattle.sweep.specs.Chart.{Chart, kind, at}
 use Rattle.sweep.specs.Queue.{beyond}
 use Rattle.sweep.specs.Sought.{is_crossing}
 use Rattle.sweep.specs.Geometry.{Occurs, Geometry}
@@ -73,7 +73,7 @@ module _ (C : Chart) where
         (λ (e : is_crossing (kind C q) ≡ true).
         let k = is_crossing_true (kind C q) e in
         let oc = at_occurs C q v k in
-        let on = R.Crossing-on q.0 q.1 (omega arith) v.1 (omega arith) k in
+        let on = R.crossing_on q.0 q.1 (omega arith) v.1 (omega arith) k in
         let ne : key (at C q) ≢ key p = λ d. off (subst (λ (x : Point). R.On q.0 x × R.On q.1 x) (R.keyed.key_inj (at C q) p oc op d) on) in
         let b : beyond C s.last (at C q) ≡ less p (at C q) =
         same_test (beyond C s.last (at C q)) (less p (at C q))
@@ -100,7 +100,7 @@ module _ (C : Chart) where
         ⊎_elim
         (λ (k : is_crossing (kind C q) ≡ true).
         let x = is_crossing_true (kind C q) k in
-        let on = subst (λ (z : Point). R.On q.0 z × R.On q.1 z) (lane_at s.last q p e) (R.Crossing-on q.0 q.1 (omega (arith, t.0)) t.0.1 (omega (arith, t.0)) x) in
+        let on = subst (λ (z : Point). R.On q.0 z × R.On q.1 z) (lane_at s.last q p e) (R.crossing_on q.0 q.1 (omega (arith, t.0)) t.0.1 (omega (arith, t.0)) x) in
         (on_active C S G A s I p hp q.0 t.1.0 on.0, on_active C S G A s I p hp q.1 t.1.1 on.1))
         (λ (k : is_crossing (kind C q) ≡ false). let z : ◌≡◌ {A = ℕ} 0 1 = cc (lane_shut s.last q (λ h. clash h k)) in absurd (omega arith))
         (ask (is_crossing (kind C q)))
