@@ -10,8 +10,8 @@ use mir.Syntax.{w32}
 use mir.Val.{SFits, of_z, to_z}
 use mir.Facts.{to_z-of_z}
 use Rattle.chart_file.specs.Coordinate.{stored}
-use Rattle.file_groups.proofs.stored.Statement.{statement}
-use Rattle.file_groups.proofs.stored.Tie as tie
+use Rattle.file_groups.proofs.stored.Goals as goal
+use Rattle.file_groups.proofs.stored.Goals.{Else-v-lt0, Then-v-lt0}
 
 -- a number as it comes back from its bits
 abbrev kept : ℤ → ℤ
@@ -37,36 +37,32 @@ above v f e = go v f (rw (to_z-of_z f) at e)
     go (pos n) f e = (n, f.sfits, to_z-of_z f, refl)
     go (negsuc n) f e = let z : ◌≡◌ {A = ℕ} 0 1 = cc in absurd (omega arith)
 
-minus : (c : tie.Then1) → (n : ℕ) × (n < 2 ^ 31) × (negsuc 0 -ℤ kept c.before.args.v ≡ pos n) × (kept (negsuc 0 -ℤ kept c.before.args.v) ≡ pos n) × (2 * n + 1 ≡ stored c.before.args.v)
-minus c = below c.before.args.v c.before.ranges.v c.if1.true
+minus : (c : Then-v-lt0) → (n : ℕ) × (n < 2 ^ 31) × (negsuc 0 -ℤ kept c.args.v ≡ pos n) × (kept (negsuc 0 -ℤ kept c.args.v) ≡ pos n) × (2 * n + 1 ≡ stored c.args.v)
+minus c = below c.args.v c.ranges.v c.if-v-lt0.true
 
-plus : (c : tie.Else1) → (n : ℕ) × (n < 2 ^ 31) × (kept c.before.args.v ≡ pos n) × (2 * n ≡ stored c.before.args.v)
-plus c = above c.before.args.v c.before.ranges.v c.if1.false
+plus : (c : Else-v-lt0) → (n : ℕ) × (n < 2 ^ 31) × (kept c.args.v ≡ pos n) × (2 * n ≡ stored c.args.v)
+plus c = above c.args.v c.ranges.v c.if-v-lt0.false
 
-sub-result : tie.Need-overflow-sub-result
-sub-result c = let m = minus c in rw m.2 (record { sfits = m.1 })
+pub overflow_sub-result : goal.overflow_sub-result
+overflow_sub-result c = let m = minus c in rw m.2 (record { sfits = m.1 })
 
-cast-result : tie.Need-overflow-cast-result
-cast-result c = let m = minus c in rw m.3 (tt, record { fits = omega (arith, m.1) })
+pub overflow_cast-result : goal.overflow_cast-result
+overflow_cast-result c = let m = minus c in rw m.3 (tt, record { fits = omega (arith, m.1) })
 
-mul-result : tie.Need-overflow-mul-result
-mul-result c = let m = minus c in rw m.3 (record { fits = omega (arith, m.1) })
+pub overflow_mul-result : goal.overflow_mul-result
+overflow_mul-result c = let m = minus c in rw m.3 (record { fits = omega (arith, m.1) })
 
-add-result : tie.Need-overflow-add-result
-add-result c = let m = minus c in rw m.3 (record { fits = omega (arith, m.1) })
+pub overflow_add-result : goal.overflow_add-result
+overflow_add-result c = let m = minus c in rw m.3 (record { fits = omega (arith, m.1) })
 
-returns : tie.Need-returns
-returns c = let m = minus c in rw m.3 m.4
+pub returns-then-v-lt0 : goal.returns-then-v-lt0
+returns-then-v-lt0 c = let m = minus c in rw m.3 m.4
 
-cast-result-2 : tie.Need-overflow-cast-result-2
-cast-result-2 c = let m = plus c in rw m.2 (tt, record { fits = omega (arith, m.1) })
+pub overflow_cast-result-2 : goal.overflow_cast-result-2
+overflow_cast-result-2 c = let m = plus c in rw m.2 (tt, record { fits = omega (arith, m.1) })
 
-mul-result-2 : tie.Need-overflow-mul-result-2
-mul-result-2 c = let m = plus c in rw m.2 (record { fits = omega (arith, m.1) })
+pub overflow_mul-result-2 : goal.overflow_mul-result-2
+overflow_mul-result-2 c = let m = plus c in rw m.2 (record { fits = omega (arith, m.1) })
 
-returns-2 : tie.Need-returns-2
-returns-2 c = let m = plus c in rw m.2 m.3
-
-pub stored_spec : {M : Type 1} → statement M
-stored_spec =
-    tie.close (tie.spec sub-result cast-result mul-result add-result returns cast-result-2 mul-result-2 returns-2)
+pub returns : goal.returns
+returns c = let m = plus c in rw m.2 m.3
