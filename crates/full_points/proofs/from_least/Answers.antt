@@ -6,21 +6,17 @@ use Rattle.integers.proofs.Machine.{m_fits}
 use Rattle.integers.proofs.Tests.{ranged}
 use Rattle.integers.proofs.Unsigned.{m_cast, m_size}
 use Rattle.full_points.proofs.Spots.{from_least as least, natural_of}
-use Rattle.full_points.proofs.from_least.Statement.{statement}
-use Rattle.full_points.proofs.from_least.Tie as tie
+use Rattle.full_points.proofs.from_least.Goals as goal
 
-cast-result : tie.Need-overflow-cast-result
-cast-result c = m_fits (search ranged depth 60 fits 20000) tt
+pub overflow_cast-result : goal.overflow_cast-result
+overflow_cast-result c = m_fits (search ranged depth 60 fits 20000) tt
 
-add-result : tie.Need-overflow-add-result
-add-result c = m_fits (search ranged depth 60 fits 20000) tt
+pub overflow_add-result : goal.overflow_add-result
+overflow_add-result c = m_fits (search ranged depth 60 fits 20000) tt
 
-cast-result-2 : tie.Need-overflow-cast-result-2
-cast-result-2 c =
+pub overflow_cast-result-2 : goal.overflow_cast-result-2
+overflow_cast-result-2 c =
     m_cast w64 (to_z w64 (of_z w64 (to_z w64 (of_z w64 (to_z w16 (of_z w16 c.args.x))) +ℤ pos 32768))) (search ranged depth 60 fits 20000) tt (least c.ranges.x)
 
-returns : tie.Need-returns
+pub returns : goal.returns
 returns c = natural_of (m_size (search ranged depth 60 fits 20000) tt) (least c.ranges.x)
-
-pub from_least_spec : {M : Type 1} → statement M
-from_least_spec = tie.close (tie.spec cast-result add-result cast-result-2 returns)
