@@ -1,5 +1,4 @@
 -- `signed` turns a stored number back: half of it, or one more than half below zero.
-use borrow.Author.Rules.{rules}
 use borrow.Author.Tests.{eq-eqb, ne_eqb}
 use mathlib.Core.Path.{◌≡◌, refl, ap, ◌∙◌}
 use Prim.Native.Nat.{ℕ, zero, suc, ◌<◌, ◌/◌, ◌^◌}
@@ -10,8 +9,7 @@ use mir.Syntax.{w32}
 use mir.Val.{SFits, to_z}
 use mir.Facts.{to_z-of_z, to_z_pos}
 use Rattle.chart_file.specs.Coordinate.{signed_of}
-use Rattle.file_numbers.proofs.signed.Statement.{statement}
-use Rattle.file_numbers.proofs.signed.Tie as tie
+use Rattle.file_numbers.proofs.signed.Goals as goal
 
 below : (h : ℕ) → negsuc 0 -ℤ pos h ≡ negsuc h
 below zero = refl
@@ -23,19 +21,16 @@ half v h = to_z_pos w32 (omega arith)
 fits : (v : ℕ) → v < 2 ^ 32 → SFits w32 (negsuc 0 -ℤ to_z w32 (v / 2))
 fits v h = rw (half v h, below) (record { sfits = omega arith })
 
-sub-result : tie.Need-overflow-sub-result
-sub-result c = fits c.before.args.v c.before.ranges.v.fits
+pub overflow_sub-result : goal.overflow_sub-result
+overflow_sub-result c = fits c.args.v c.ranges.v.fits
 
-returns : tie.Need-returns
+pub returns-then-v-eq0 : goal.returns-then-v-eq0
 unfolding signed_of
-returns c = rw (eq-eqb _ _ c.if1.true) (half c.before.args.v c.before.ranges.v.fits)
+returns-then-v-eq0 c = rw (eq-eqb _ _ c.if-v-eq0.true) (half c.args.v c.ranges.v.fits)
 
-returns-2 : tie.Need-returns-2
+pub returns-else-v-eq0 : goal.returns-else-v-eq0
 unfolding signed_of
-returns-2 c =
-    let v = c.before.args.v in
-    let h = c.before.ranges.v.fits in
-    rw (ne_eqb _ _ c.if1.false) (to_z-of_z {w = w32} (fits v h) ∙ ap (λ (z : ℤ). negsuc 0 -ℤ z) (half v h) ∙ below (v / 2))
-
-pub signed_spec : {M : Type 1} → statement M
-signed_spec = tie.close (tie.spec (λ c. search rules) sub-result returns returns-2)
+returns-else-v-eq0 c =
+    let v = c.args.v in
+    let h = c.ranges.v.fits in
+    rw (ne_eqb _ _ c.if-v-eq0.false) (to_z-of_z {w = w32} (fits v h) ∙ ap (λ (z : ℤ). negsuc 0 -ℤ z) (half v h) ∙ below (v / 2))
