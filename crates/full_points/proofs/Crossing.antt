@@ -1,5 +1,5 @@
 -- Where two pieces of a chart cross is within its bounds, by Cramer's rule and not in lowest terms; and so is every end.
-use mathlib.Core.Path.{◌≡◌, refl, sym, subst, ◌∙◌}
+use mathlib.Core.Path.{◌≡◌, refl, sym, subst}
 use mathlib.Core.List.{[], ◌∷◌}
 use Prim.Native.Nat.{ℕ, ◌<◌, ◌^◌}
 use native.Mathlib.Nat.{pos_of_div-pos}
@@ -12,21 +12,20 @@ use Rattle.integers.specs.Size.{Small}
 use Rattle.integers.proofs.Factors.{n/p, p/p}
 use Rattle.integers.proofs.Identity.{terms}
 use Rattle.integers.proofs.Machine.{m_bound}
-use Rattle.integers.proofs.Naturals.{pos-<, ≤_pos, pos-≤}
-use Rattle.integers.proofs.Order.{≤_cert, <_cert, ≡_cert, ≡→≤, ≤_antisym, <→≢}
-use Rattle.integers.proofs.Signs.{≤_diff, <_diff, ≡_diff, diff-≡, <→≤, n+n, n+p, n*n, p*p, z→n, nat}
+use Rattle.integers.proofs.Naturals.{pos-<, pos-≤}
+use Rattle.integers.proofs.Order.{≤_cert, <_cert, ≡→≤, ≤_antisym, <→≢}
+use Rattle.integers.proofs.Signs.{≤_diff, <_diff, diff-≡, <→≤, n+n, n+p, n*n, p*p, z→n, nat}
 use Rattle.integers.proofs.Sizes.{small_lo, small_hi, small_of}
 use Rattle.integers.proofs.Tests.{sized}
 use Rattle.fractions.specs.Point.{point_order, lowest_of}
 use Rattle.fractions.specs.declared.Order.{Order}
-use Rattle.fractions.specs.declared.Order.TheVariants.{Less, Equal, Greater}
+use Rattle.fractions.specs.declared.Order.TheVariants.{Greater}
 use Rattle.fractions.specs.declared.Point.{Point}
 use Rattle.fractions.proofs.Points.{Places, left, below, same, above, right, places}
 use Rattle.line_segment.specs.declared.LineSegment.{LineSegment}
 use Rattle.line_segment.specs.declared.Meeting.TheVariants.{Crossing}
-use Rattle.line_segment.specs.Demand.{OnChart, OnlyPoint}
 use Rattle.line_segment.specs.Geometry.{run, rise, side, LiesOn}
-use Rattle.line_segment.specs.Piece.{point_of, HasLength}
+use Rattle.line_segment.specs.Piece.{point_of}
 use Rattle.line_segment.specs.Segment.{intersect_of, over, cramer_of, crossing_of}
 use Rattle.line_segment.proofs.Along.{Leads, rightward, upward, leads}
 use Rattle.line_segment.proofs.CramersPoint.{crossing_same}

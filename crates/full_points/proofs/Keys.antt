@@ -5,13 +5,13 @@ use mathlib.Core.List.{[], ◌∷◌}
 use Prim.Native.Nat.{ℕ, zero, suc, ◌+◌, ◌*◌, ◌/◌, ◌%◌, ◌<◌, ◌≤◌}
 use native.Mathlib.Nat.{div-add-mod', div-mul-le_self, lt-div-mul-add, mul-add-div_right, mul-div-mul_right, mul-le-mul, le_refl, div-mul_cancel}
 use native.Mathlib.Omega.{arith}
-use lib.IntN.{ℤ, pos, nat_abs, ◌+ℤ◌, ◌-ℤ◌, ◌*ℤ◌}
+use lib.IntN.{ℤ, pos, nat_abs, ◌+ℤ◌, ◌*ℤ◌}
 use lib.Signed.{◌≤ℤ◌, ◌<ℤ◌, le_z_yes}
 use Rattle.integers.proofs.Factors.{*_cancel-<, *_cancel-≡}
 use Rattle.integers.proofs.Identity.{by_ring, terms}
 use Rattle.integers.proofs.Naturals.{pos-≤, pos-<, <_pos, natural}
 use Rattle.integers.proofs.Order.{<_cert, <→≢}
-use Rattle.integers.proofs.Signs.{≤_diff, <_diff, <→≤, n*n, p*p, p+n, nat}
+use Rattle.integers.proofs.Signs.{≤_diff, <_diff, n*n, p*p, p+n, nat}
 use Rattle.integers.proofs.Sizes.{abs-*}
 use Rattle.fractions.specs.Point.{common, lowest_of}
 use Rattle.fractions.specs.declared.Point.{Point}

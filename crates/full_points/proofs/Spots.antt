@@ -1,8 +1,7 @@
 -- Which spot a point has, and when an end stands there.
-use mathlib.Core.Path.{◌≡◌, refl, sym, ap, ap₂, subst, ◌∙◌}
+use mathlib.Core.Path.{◌≡◌, refl, sym, ap, subst, ◌∙◌}
 use mathlib.Core.Bool.{Bool, true, false}
 use mathlib.Core.List.{[], ◌∷◌}
-use mathlib.Core.Logic.{◌↔◌}
 use Prim.Native.Nat.{ℕ, ◌+◌, ◌*◌, ◌/◌, ◌%◌, ◌<◌}
 use native.Mathlib.Nat.{div-add-mod', mod-lt, div-lt_iff_lt-mul, mul-div_cancel, mul-add-div_right, div-eq_of_lt, mul-mod_left, mul-add-mod_self_right, mod-eq_of_lt}
 use native.Mathlib.Omega.{arith}
