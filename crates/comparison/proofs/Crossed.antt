@@ -1,17 +1,16 @@
 -- The order of two fractions by their signs, over 0 and above it; and of x over d and y over e as fractions.
 use mathlib.Core.Path.{◌≡◌, refl, sym, ap, ap₂, ◌∙◌}
 use mathlib.Core.Bool.{Bool, true, false, cond}
-use Prim.Native.Nat.{ℕ, zero, suc, ◌<◌, ◌*◌}
+use Prim.Native.Nat.{ℕ, zero, suc, ◌<◌}
 use native.Mathlib.Omega.{arith}
 use borrow.Author.Tests.{lt-ltb, le-ltb}
 use lib.Dec.{ltb, ltb→lt}
 use lib.IntN.{ℤ, pos, neg_ℤ, ◌*ℤ◌, *ℤ-zero, zero-*ℤ}
-use lib.Signed.{lt_z, lt_z_yes, lt_z_no, ◌<ℤ◌, ◌≤ℤ◌, <ℤ-≤ℤ_trans}
+use lib.Signed.{lt_z, lt_z_yes, lt_z_no, ◌<ℤ◌, <ℤ-≤ℤ_trans}
 use Rattle.integers.proofs.Naturals.{pos-<, pos-≤}
 use Rattle.integers.proofs.Factors.{m*p, *_mono-≤}
 use Rattle.fractions.specs.Order.{order, turned}
 use Rattle.fractions.specs.Fraction.{above, ratio_order, fraction_order}
-use Rattle.fractions.specs.declared.Order.{Order}
 use Rattle.fractions.specs.declared.Order.TheVariants.{Less, Equal, Greater}
 use Rattle.fractions.specs.declared.Fraction.{Fraction}
 use Rattle.fractions.proofs.Orders.{order_less, order_equal, order_greater, order_turned, order_negated}

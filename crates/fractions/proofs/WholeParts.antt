@@ -3,13 +3,13 @@ use mathlib.Core.Path.{◌≡◌, sym, ap, ap₂, ◌∙◌}
 use Prim.Native.Nat.{ℕ, suc, ◌+◌, ◌-◌, ◌*◌, ◌/◌, ◌%◌, ◌<◌, ◌≤◌}
 use native.Mathlib.Nat.{mod-lt, div-add-mod', add-mul, mul_assoc, mul_comm, suc-mul, zero-mul, mul-le-mul_right, mul-lt-mul_of_pos_right, mul-pos}
 use native.Mathlib.Omega.{arith}
-use lib.IntN.{ℤ, pos, neg_ℤ, ◌*ℤ◌}
+use lib.IntN.{pos, neg_ℤ}
 use Rattle.integers.proofs.Naturals.{<_pos, pos_injective, pos-<}
 use Rattle.integers.proofs.Ring.{neg-*ℤ}
 use Rattle.fractions.specs.Order.{order}
 use Rattle.fractions.specs.Fraction.{ratio_order}
 use Rattle.fractions.specs.declared.Order.{Order}
-use Rattle.fractions.specs.declared.Order.TheVariants.{Less, Equal, Greater}
+use Rattle.fractions.specs.declared.Order.TheVariants.{Less, Greater}
 use Rattle.fractions.proofs.Orders.{Answer, is_less_lem, is_equal_lem, is_greater, answer, order_negated, nat_less, nat_equal, nat_greater}
 use Rattle.fractions.proofs.Ratios.{order_scaled}
 

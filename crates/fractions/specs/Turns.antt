@@ -1,5 +1,5 @@
 -- Two fractions compared with pencil and paper, each line of the paper written out, and how many lines there are.
-use Rattle.std.specs.Prelude.{Bool, true, false, cond, List, [], ◌∷◌, ℕ, zero, suc, ◌+◌, ◌/◌, ◌%◌, eqb, ltb, pos}
+use Rattle.std.specs.Prelude.{Bool, false, cond, List, [], ◌∷◌, ℕ, zero, suc, ◌+◌, ◌/◌, ◌%◌, eqb, ltb, pos}
 use Rattle.fractions.specs.Order.{order, and_then}
 use Rattle.fractions.specs.declared.Order.{Order}
 use Rattle.fractions.specs.declared.Order.TheVariants.{Equal}

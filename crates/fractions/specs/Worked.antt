@@ -1,5 +1,5 @@
 -- The worked examples of docs/COMPARISON.md, line by line.
-use Rattle.std.specs.Prelude.{◌≡◌, List, [], ◌∷◌, ℕ, pos, negsuc, length}
+use Rattle.std.specs.Prelude.{◌≡◌, [], ◌∷◌, ℕ, pos, negsuc, length}
 use Rattle.fractions.specs.Fraction.{ratio_order}
 use Rattle.fractions.specs.Turns.{Line, lines_of, fib}
 use Rattle.fractions.specs.declared.Order.TheVariants.{Less, Greater}

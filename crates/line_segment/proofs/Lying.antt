@@ -20,7 +20,7 @@ use Rattle.line_segment.specs.Piece.{point_of, end_order, join_by, join_of, HasL
 use Rattle.line_segment.specs.Geometry.{run, rise, side, admits, LiesOn}
 use Rattle.line_segment.specs.Segment.{moment, within, inner_between}
 use Rattle.line_segment.proofs.Booleans.{no, both}
-use Rattle.line_segment.proofs.Sides.{side_line, line, min_on, max_on}
+use Rattle.line_segment.proofs.Sides.{side_line, min_on, max_on}
 
 pub whole : (e : EndPoint) → 0 < (point_of e).d
 unfolding point_of

@@ -1,6 +1,5 @@
 -- `comparison::compare` meets its contract: over 0 by the sign of one product; above it by whole parts, which differ where the signs do.
 use mathlib.Core.Path.{sym, ap, ◌∙◌}
-use mathlib.Core.Bool.{true, false}
 use native.Mathlib.Omega.{arith}
 use Rattle.fractions.specs.Order.{turned}
 use Rattle.comparison.proofs.Crossed.{first_over_zero, second_over_zero, both_below, first_below, second_below, none_below}

@@ -1,6 +1,5 @@
 -- `decimals::put_word` meets its contract: what is left of the word is put where the text ends.
 use mathlib.Core.Path.{refl, sym, ◌∙◌}
-use Prim.Native.Nat.{◌-◌}
 use native.Mathlib.Omega.{arith}
 use Rattle.decimals.proofs.Puts.{put_next, put_end}
 use Rattle.decimals.proofs.put_word.Goals as goal

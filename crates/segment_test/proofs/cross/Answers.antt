@@ -22,6 +22,6 @@ returns-else-astride c =
     let off = (sym c.is_colinear.ensures ∙ c.if-is_colinear.false) in
     let off' = (sym c.is_colinear-else-is_colinear.ensures ∙ c.if-is_colinear-2.false) in
     elim c.else-astride.branch [
-      else-astride-via-then-astride+else-opposite w ↦ one_side _ _ _ c.turn_to-from.ensures c.turn_to-to.ensures off off' (sym w.opposite.ensures ∙ w.if-opposite.false)
-    | else-astride-via-else-astride w ↦ not_astride _ _ _ c.turn_to-from.ensures c.turn_to-to.ensures off off' w.if-astride.false
+      | else-astride-via-then-astride+else-opposite w ↦ one_side _ _ _ c.turn_to-from.ensures c.turn_to-to.ensures off off' (sym w.opposite.ensures ∙ w.if-opposite.false)
+      | else-astride-via-else-astride w ↦ not_astride _ _ _ c.turn_to-from.ensures c.turn_to-to.ensures off off' w.if-astride.false
     ]
