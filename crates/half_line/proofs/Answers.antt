@@ -1,6 +1,6 @@
 -- What the parts of the test answer, from what a branch of the code knows.
-use mathlib.Core.Path.{◌≡◌, sym, ◌∙◌}
-use mathlib.Core.Bool.{Bool, true, false}
+use mathlib.Core.Path.{◌≡◌}
+use mathlib.Core.Bool.{true, false}
 use Rattle.orientation.specs.declared.Orientation.{Orientation}
 use Rattle.orientation.specs.declared.Orientation.TheVariants.{CoLinear}
 use Rattle.orientation.specs.Turn.{is_straight, reversed, same_turn}

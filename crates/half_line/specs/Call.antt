@@ -1,5 +1,5 @@
 -- The half-line's own call, on five numbers of a piece and two points.
-use Rattle.std.specs.Prelude.{cond, List, [], ◌∷◌, ℕ, eqb, ℤ, pos}
+use Rattle.std.specs.Prelude.{cond, [], ◌∷◌, ℕ, eqb, ℤ, pos}
 use Rattle.charts.specs.Fault.{fault_of}
 use Rattle.charts.specs.Piece.{coordinate_of, piece_at}
 use Rattle.half_line.specs.HalfLine.{half_line_of}
