@@ -7,14 +7,12 @@ use Prim.Native.Nat.{ℕ, ◌+◌, ◌<◌}
 use native.Mathlib.Omega.{arith}
 use borrow.Author.Tests.{ltb-true}
 use lib.Dec.{ltb}
-use lib.IntN.{ℤ, pos}
-use lib.Signed.{◌<ℤ◌}
-use Rattle.line_segment.specs.Piece.{piece_of, HasLength, first_included, second_included}
+use lib.IntN.{ℤ}
+use Rattle.line_segment.specs.Piece.{piece_of, first_included, second_included}
 use Rattle.charts.specs.declared.Verdict.TheVariants.{Accepted}
-use Rattle.charts.specs.Piece.{coordinate_of}
 use Rattle.charts.proofs.Accepted.{apart, in_range}
 use Rattle.outline.specs.Outline.{number_at, next_of, side_of, verdict_of}
-use Rattle.outline.specs.Demand.{Corners, OffCorner, SameCorner, NoneBelow, Due, done, SidesAsGiven, SidesHaveLength, PeakAsGiven}
+use Rattle.outline.specs.Demand.{OffCorner, SameCorner, NoneBelow, Due, done, SidesAsGiven, SidesHaveLength, PeakAsGiven}
 use Rattle.outline.proofs.Exactly.{refuses_exactly}
 use Rattle.outline.proofs.Peaks.{peak_x, peak_y, peak_below}
 

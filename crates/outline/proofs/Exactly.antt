@@ -2,7 +2,7 @@
 use mathlib.Core.Path.{◌≡◌, refl, sym, ap, subst, ◌∙◌}
 use mathlib.Core.Bool.{Bool, true, false, not, ◌||◌}
 use mathlib.Core.List.{List}
-use Prim.Native.Nat.{ℕ, ◌<◌, ◌≤◌, ◌*◌, ◌/◌, ◌%◌}
+use Prim.Native.Nat.{ℕ, ◌/◌, ◌%◌}
 use native.Mathlib.Omega.{arith}
 use borrow.Author.Tests.{eqb-true, ltb-false}
 use lib.Dec.{eqb, ltb}
@@ -10,11 +10,11 @@ use lib.IntN.{ℤ, pos}
 use lib.ListN.{length}
 use Rattle.line_segment.proofs.Booleans.{no, clash}
 use Rattle.charts.specs.declared.Verdict.{Verdict}
-use Rattle.charts.specs.declared.Verdict.TheVariants.{Accepted, Refused}
+use Rattle.charts.specs.declared.Verdict.TheVariants.{Accepted}
 use Rattle.charts.proofs.Rows.{Says, is_true, is_false, says_lt, says_eq, says_or, says_and, says_off}
-use Rattle.charts.specs.Fault.{off_range, same_ends}
+use Rattle.charts.specs.Fault.{same_ends}
 use Rattle.outline.specs.Counting.{first}
-use Rattle.outline.specs.Outline.{fewest, most, number_at, next_of, off_at, same_at, off_peak, no_outline, verdict_of}
+use Rattle.outline.specs.Outline.{fewest, most, number_at, off_at, same_at, off_peak, no_outline, verdict_of}
 use Rattle.outline.specs.Demand.{Corners, OffCorner, SameCorner, NoneBelow, OffPeak, Due, fifteen, off, same, peak, done, RefusesExactly}
 use Rattle.outline.proofs.First.{None, Finds, at, nowhere, found, none, finds}
 use Rattle.outline.proofs.Peaks.{or_false}

@@ -2,20 +2,18 @@
 use mathlib.Core.Path.{◌≡◌, refl}
 use mathlib.Core.Bool.{Bool, true, false, cond, ◌||◌}
 use mathlib.Core.List.{List}
-use mathlib.Core.Logic.{inl, inr}
 use Prim.Native.Nat.{ℕ, ◌/◌, ◌<◌, ◌^◌}
 use native.Mathlib.Omega.{arith}
 use borrow.Author.Tests.{ltb-false}
 use lib.Dec.{ltb, lt→ltb}
 use lib.IntN.{ℤ, pos, negsuc, neg_ℤ, nat_abs}
 use lib.ListN.{length}
-use lib.Signed.{lt_z, ◌<ℤ◌, ◌≤ℤ◌}
+use lib.Signed.{lt_z, ◌<ℤ◌}
 use mir.Syntax.{w16}
 use mir.Facts.{Fits-nat_abs}
 use Rattle.line_segment.proofs.Booleans.{no}
 use Rattle.charts.specs.Fault.{range, outside, off_range}
 use Rattle.charts.specs.Piece.{coordinate_of}
-use Rattle.charts.specs.declared.Verdict.{Verdict}
 use Rattle.charts.specs.declared.Verdict.TheVariants.{Accepted, Refused}
 use Rattle.charts.proofs.Ranges.{coordinate_fits, coordinate_kept}
 use Rattle.outline.specs.Counting.{first}

@@ -1,5 +1,5 @@
 -- An outline as a list of numbers, two a corner, its sides, and the verdict on it and a peak.
-use Rattle.std.specs.Prelude.{Bool, cond, not, ◌||◌, List, ℕ, suc, ◌+◌, ◌*◌, ◌/◌, ◌%◌, eqb, ltb, ℤ, pos, length, get_or}
+use Rattle.std.specs.Prelude.{Bool, cond, not, ◌||◌, List, ℕ, ◌+◌, ◌*◌, ◌/◌, ◌%◌, eqb, ltb, ℤ, pos, length, get_or}
 use Rattle.std.specs.Int.Signed.{lt_z}
 use Rattle.line_segment.specs.declared.LineSegment.{LineSegment}
 use Rattle.line_segment.specs.Piece.{piece_of}
