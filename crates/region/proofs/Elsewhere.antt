@@ -10,7 +10,6 @@ use lib.IntN.{ℤ, pos}
 use lib.ListN.{length, get_or, get_or-append}
 use lib.Seq.{get_or-append-add}
 use Rattle.line_segment.proofs.Booleans.{clash}
-use Rattle.half_line.specs.declared.Corner.{Corner}
 use Rattle.outline.specs.Counting.{first, count}
 use Rattle.outline.specs.Outline.{number_at, next_of, side_of}
 use Rattle.outline.proofs.Accepted.{next_below}

@@ -1,9 +1,8 @@
 -- What the half-line counts is what the half-open rule counts: the proof of `EvenOdd`. Assumes nothing.
 use mathlib.Core.Path.{◌≡◌, refl, sym, ap, ap₂, ◌∙◌}
-use mathlib.Core.Bool.{Bool, true, false, cond, not, ◌&&◌, ◌||◌}
-use mathlib.Core.List.{List, [], ◌∷◌}
+use mathlib.Core.Bool.{Bool, cond, not, ◌&&◌, ◌||◌}
+use mathlib.Core.List.{[], ◌∷◌}
 use Prim.Native.Nat.{ℕ, zero, suc, ◌+◌}
-use lib.Dec.{ltb}
 use lib.IntN.{ℤ, pos, negsuc, neg_ℤ, ◌+ℤ◌, ◌-ℤ◌, ◌*ℤ◌, +ℤ_invr}
 use lib.Signed.{lt_z, ◌<ℤ◌, clash_ℤ}
 use Rattle.integers.proofs.Order.{Tri, less, same, more, tri, ≡→≤, <_cert}
@@ -12,18 +11,17 @@ use Rattle.orientation.proofs.Signs.{turn_above, turn_below}
 use Rattle.integers.proofs.Identity.{by_ring, terms}
 use Rattle.orientation.specs.declared.Orientation.{Orientation}
 use Rattle.orientation.specs.declared.Orientation.TheVariants.{CounterClockWise, ClockWise, CoLinear}
-use Rattle.orientation.specs.Turn.{det, turn_of, reversed, is_left, is_right, is_straight}
-use Rattle.line_segment.specs.declared.LineSegment.{LineSegment}
+use Rattle.orientation.specs.Turn.{det, turn_of, reversed, is_left, is_straight}
 use Rattle.line_segment.specs.Segment.{opposed}
 use Rattle.half_line.specs.declared.Corner.{Corner}
 use Rattle.half_line.specs.declared.IHalfLineLineSegmentSoS.{IHalfLineLineSegmentSoS}
-use Rattle.half_line.specs.declared.IHalfLineLineSegmentSoS.TheVariants.{Nothing, Crossing}
+use Rattle.half_line.specs.declared.IHalfLineLineSegmentSoS.TheVariants.{Nothing}
 use Rattle.half_line.specs.HalfLine.{corner_of, leans_of, passes_of, point_turn, half_line_of}
 use Rattle.charts.proofs.Rows.{is_true, is_false, says_lt}
 use Rattle.outline.specs.Counting.{count}
 use Rattle.outline.specs.Outline.{side_of}
-use Rattle.region.specs.Region.{counted, right_of, met_side, parity, region_of}
-use Rattle.region.specs.Demand.{above, rises, crosses_right, CountsHalfOpen, even_odd_lem, EvenOdd}
+use Rattle.region.specs.Region.{counted, right_of, met_side, region_of}
+use Rattle.region.specs.Demand.{crosses_right, CountsHalfOpen, even_odd_lem, EvenOdd}
 
 -- how an end lies to the half-line is how its height lies to the peak's
 height₀ : (x y u v : ℤ) → (x +ℤ pos 1 -ℤ x) *ℤ (v -ℤ y) -ℤ (y -ℤ y) *ℤ (u -ℤ x) ≡ v -ℤ y

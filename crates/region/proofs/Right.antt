@@ -1,11 +1,10 @@
 -- The point to the right of a peak fits, since x stops before the last. Assumes nothing.
-use mathlib.Core.Path.{◌≡◌, refl}
 use Prim.Native.Nat.{zero, suc}
 use native.Mathlib.Omega.{arith}
 use borrow.Author.Tests.{lt-ltb}
 use lib.Dec.{ltb→lt}
 use lib.IntN.{ℤ, pos, negsuc, ◌+ℤ◌}
-use lib.Signed.{mag, ◌<ℤ◌}
+use lib.Signed.{◌<ℤ◌}
 use mir.Syntax.{w16}
 use mir.Val.{SFits}
 

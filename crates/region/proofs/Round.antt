@@ -10,13 +10,12 @@ use lib.IntN.{ℤ, pos}
 use lib.ListN.{length, get_or, length-append, get_or-append}
 use lib.Seq.{get_or-append-add}
 use Rattle.fractions.specs.Order.{turned}
-use Rattle.fractions.specs.Point.{point_order, whole_of}
+use Rattle.fractions.specs.Point.{whole_of}
 use Rattle.fractions.specs.declared.Order.{Order}
 use Rattle.fractions.specs.declared.Order.TheVariants.{Less, Equal, Greater}
 use Rattle.fractions.specs.declared.Point.{Point}
 use Rattle.fractions.proofs.Promises.{orders_points, lowest_terms}
 use Rattle.line_segment.specs.declared.EndPoint.{EndPoint}
-use Rattle.line_segment.specs.declared.LineSegment.{LineSegment}
 use Rattle.line_segment.specs.Piece.{point_of, end_order, first_included, second_included, join_by, join_of, piece_of}
 use Rattle.half_line.specs.declared.Corner.{Corner}
 use Rattle.charts.specs.Piece.{coordinate_of}

@@ -2,21 +2,20 @@
 -- where one of its corners, and not the other, stands to the right of the peak at its height; going round, every such corner
 -- is met twice. Assumes nothing.
 use mathlib.Core.Path.{◌≡◌, refl, sym, ap, ap₂, ◌∙◌, subst}
-use mathlib.Core.Bool.{Bool, true, false, cond, not, ◌&&◌, ◌||◌}
-use mathlib.Core.Logic.{◌⊎◌, inl, inr}
+use mathlib.Core.Bool.{Bool, true, false, cond, not, ◌&&◌}
 use mathlib.Core.List.{List, [], ◌∷◌}
 use Prim.Native.Nat.{ℕ, zero, suc, ◌+◌, ◌*◌, ◌%◌, ◌<◌}
 use native.Mathlib.Omega.{arith}
 use lib.Dec.{eqb, ltb}
-use lib.IntN.{ℤ, pos, ◌+ℤ◌, ◌-ℤ◌, ◌*ℤ◌}
-use lib.Signed.{◌<ℤ◌, ◌≤ℤ◌, clash_ℤ}
+use lib.IntN.{ℤ, pos, ◌-ℤ◌, ◌*ℤ◌}
+use lib.Signed.{◌<ℤ◌}
 use Rattle.integers.proofs.Order.{Tri, less, same, more, tri, <_cert, <_trans, <_asym, <→≢}
 use Rattle.integers.proofs.Signs.{<_diff, ≡_diff, diff-≡, p*p, x*z}
 use Rattle.integers.proofs.Ring.{*ℤ_idr}
 use Rattle.integers.proofs.Identity.{by_ring, terms}
 use Rattle.orientation.specs.declared.Orientation.{Orientation}
 use Rattle.orientation.specs.declared.Orientation.TheVariants.{CounterClockWise, ClockWise, CoLinear}
-use Rattle.orientation.specs.Turn.{det, turn_of, is_left, is_right, is_straight, same_turn}
+use Rattle.orientation.specs.Turn.{det, turn_of, is_left, is_straight, same_turn}
 use Rattle.orientation.proofs.Signs.{turn_above, turn_below}
 use Rattle.fractions.specs.Order.{order, and_then}
 use Rattle.fractions.specs.Fraction.{ratio_order}
@@ -24,7 +23,6 @@ use Rattle.fractions.specs.Point.{point_order, whole_of}
 use Rattle.fractions.specs.declared.Order.{Order}
 use Rattle.fractions.specs.declared.Order.TheVariants.{Less, Equal, Greater}
 use Rattle.fractions.proofs.Orders.{order_less, order_equal, order_greater}
-use Rattle.line_segment.specs.declared.EndPoint.{EndPoint}
 use Rattle.line_segment.specs.declared.LineSegment.{LineSegment}
 use Rattle.line_segment.specs.Geometry.{run, rise, side, admits, LiesOn}
 use Rattle.line_segment.specs.Piece.{point_of, end_order, first_included, second_included, join_by, join_of, piece_of, HasLength}
@@ -41,7 +39,7 @@ use Rattle.outline.specs.Counting.{first, count}
 use Rattle.outline.specs.Outline.{number_at, next_of, side_of, verdict_of}
 use Rattle.outline.proofs.Accepted.{sides_have_length, peak_as_given}
 use Rattle.region.specs.declared.Region.{Region}
-use Rattle.region.specs.Region.{counted, right_of, on_side, met_side, parity, region_of, region_answer_of}
+use Rattle.region.specs.Region.{counted, right_of, on_side, met_side, parity, region_of}
 use Rattle.region.specs.Demand.{counted_other, other_sense, SensesExchanged}
 use Rattle.region.proofs.EvenOdd.{height, rust}
 use Rattle.region.proofs.Elsewhere.{one, next_more, next_last}

@@ -10,7 +10,6 @@ use Rattle.half_line.specs.declared.IHalfLineLineSegmentSoS.{IHalfLineLineSegmen
 use Rattle.half_line.specs.declared.IHalfLineLineSegmentSoS.TheVariants.{Nothing, Crossing}
 use Rattle.half_line.specs.HalfLine.{corner_of, point_turn, half_line_of}
 use Rattle.half_line.specs.Call.{corner_at}
-use Rattle.charts.specs.declared.Verdict.{Verdict}
 use Rattle.charts.specs.declared.Verdict.TheVariants.{Accepted}
 use Rattle.outline.specs.Counting.{first, count}
 use Rattle.outline.specs.Outline.{side_of, verdict_of}
