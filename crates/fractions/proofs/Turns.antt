@@ -1,4 +1,4 @@
--- The lines of pencil and paper: enough room for them (`line`), what the last one says (`last_says`), and how few they are (`lines_few`).
+-- The lines of pencil and paper: enough room for them (`line`), what the last one says (`last_says_lem`), and how few they are (`lines_few`).
 use mathlib.Core.Path.{◌≡◌, refl, sym, ap, ◌∙◌, subst}
 use mathlib.Core.Bool.{Bool, true, false, cond}
 use mathlib.Core.List.{List, [], ◌∷◌}
@@ -12,7 +12,7 @@ use lib.IntN.{pos}
 use lib.ListN.{length}
 use Rattle.fractions.specs.Order.{order, and_then}
 use Rattle.fractions.specs.Fraction.{ratio_order}
-use Rattle.fractions.specs.Turns.{Line, line_of, goes_on_lem, lines_in, lines_of, decided, last_says_lem, fib, fib_from}
+use Rattle.fractions.specs.Turns.{Line, line_of, goes_on, lines_in, lines_of, decided, last_says, fib, fib_from}
 use Rattle.fractions.specs.declared.Order.{Order}
 use Rattle.integers.proofs.Naturals.{<_pos, pos_injective}
 use Rattle.fractions.proofs.Orders.{Answer, is_less_lem, is_equal_lem, is_greater, answer, nat_greater}
@@ -24,7 +24,7 @@ pub record Same (n d m e : ℕ) : Type 0 where
   pub first : 0 < n % d
   pub second : 0 < m % e
 
-goes : (n d m e : ℕ) → goes_on_lem (line_of n d m e) ≡ true → Same n d m e
+goes : (n d m e : ℕ) → goes_on (line_of n d m e) ≡ true → Same n d m e
 goes n d m e h = go (eqb (n / d) (m / e)) (ltb 0 (n % d)) (ltb 0 (m % e)) refl refl refl h
   where
     go : (t u v : Bool) → eqb (n / d) (m / e) ≡ t → ltb 0 (n % d) ≡ u → ltb 0 (m % e) ≡ v → cond t (cond u v false) false ≡ true → Same n d m e
@@ -33,18 +33,18 @@ goes n d m e h = go (eqb (n / d) (m / e)) (ltb 0 (n % d)) (ltb 0 (m % e)) refl r
     go true false v p q r h = let z : ◌≡◌ {A = ℕ} 0 1 = cc in absurd (omega arith)
     go false u v p q r h = let z : ◌≡◌ {A = ℕ} 0 1 = cc in absurd (omega arith)
 
-goes_on : (n d m e : ℕ) → Same n d m e → goes_on_lem (line_of n d m e) ≡ true
-goes_on n d m e s = rw (eq-eqb (n / d) (m / e) s.wholes, lt-ltb 0 (n % d) s.first) (lt-ltb 0 (m % e) s.second)
+goes_on_lem : (n d m e : ℕ) → Same n d m e → goes_on (line_of n d m e) ≡ true
+goes_on_lem n d m e s = rw (eq-eqb (n / d) (m / e) s.wholes, lt-ltb 0 (n % d) s.first) (lt-ltb 0 (m % e) s.second)
 
 -- more room changes nothing
 room : (j k n d m e : ℕ) → 0 < d → 0 < e → d + e ≤ j → d + e ≤ k → lines_in j n d m e ≡ lines_in k n d m e
 unfolding lines_in
 room zero k n d m e hd he p q = absurd (omega arith)
 room (suc j) zero n d m e hd he p q = absurd (omega arith)
-room (suc j) (suc k) n d m e hd he p q = go (goes_on_lem (line_of n d m e)) refl (λ f g. room j k e (m % e) d (n % d) f g)
+room (suc j) (suc k) n d m e hd he p q = go (goes_on (line_of n d m e)) refl (λ f g. room j k e (m % e) d (n % d) f g)
   where
     go :
-        (t : Bool) → goes_on_lem (line_of n d m e) ≡ t →
+        (t : Bool) → goes_on (line_of n d m e) ≡ t →
         (0 < m % e → 0 < n % d → m % e + n % d ≤ j → m % e + n % d ≤ k → lines_in j e (m % e) d (n % d) ≡ lines_in k e (m % e) d (n % d)) →
         ◌≡◌ {A = List Line} (line_of n d m e ∷ cond t (lines_in j e (m % e) d (n % d)) []) (line_of n d m e ∷ cond t (lines_in k e (m % e) d (n % d)) [])
     go true h f =
@@ -56,12 +56,12 @@ room (suc j) (suc k) n d m e hd he p q = go (goes_on_lem (line_of n d m e)) refl
 
 module _ (n d m e : ℕ) (hd : 0 < d) (he : 0 < e) where
   -- a line, and those that follow where it goes on
-  line : lines_of n d m e ≡ line_of n d m e ∷ cond (goes_on_lem (line_of n d m e)) (lines_of e (m % e) d (n % d)) []
+  line : lines_of n d m e ≡ line_of n d m e ∷ cond (goes_on (line_of n d m e)) (lines_of e (m % e) d (n % d)) []
   unfolding lines_of lines_in
-  line = room (d + e) (suc (d + e)) n d m e hd he (omega arith) (omega arith) ∙ go (goes_on_lem (line_of n d m e)) refl
+  line = room (d + e) (suc (d + e)) n d m e hd he (omega arith) (omega arith) ∙ go (goes_on (line_of n d m e)) refl
     where
       go :
-          (t : Bool) → goes_on_lem (line_of n d m e) ≡ t →
+          (t : Bool) → goes_on (line_of n d m e) ≡ t →
           ◌≡◌ {A = List Line} (line_of n d m e ∷ cond t (lines_in (d + e) e (m % e) d (n % d)) []) (line_of n d m e ∷ cond t (lines_in (m % e + n % d) e (m % e) d (n % d)) [])
       go true h =
           let s = goes n d m e h in
@@ -74,18 +74,18 @@ module _ (n d m e : ℕ) (hd : 0 < d) (he : 0 < e) where
   pub shorter : n / d ≡ m / e → 0 < n % d → 0 < m % e → length (lines_of e (m % e) d (n % d)) < length (lines_of n d m e)
   shorter p q r =
       let l : length (lines_of n d m e) ≡ suc (length (lines_of e (m % e) d (n % d))) =
-      ap length (line ∙ ap (λ (t : Bool). line_of n d m e ∷ cond t (lines_of e (m % e) d (n % d)) []) (goes_on n d m e (record { wholes = p; first = q; second = r }))) in
+      ap length (line ∙ ap (λ (t : Bool). line_of n d m e ∷ cond t (lines_of e (m % e) d (n % d)) []) (goes_on_lem n d m e (record { wholes = p; first = q; second = r }))) in
       omega arith
 
 -- ---- what the last line says
-later : (l : Line) (k n d m e : ℕ) → 0 < k → last_says_lem (l ∷ lines_in k n d m e) ≡ last_says_lem (lines_in k n d m e)
-unfolding last_says_lem lines_in
+later : (l : Line) (k n d m e : ℕ) → 0 < k → last_says (l ∷ lines_in k n d m e) ≡ last_says (lines_in k n d m e)
+unfolding last_says lines_in
 later l zero n d m e h = absurd (omega arith)
 later l (suc k) n d m e h = refl
 
 module _ (n d m e : ℕ) (hd : 0 < d) (he : 0 < e) where
   -- the whole parts are the same
-  left_says : n / d ≡ m / e → goes_on_lem (line_of n d m e) ≡ false → order (pos (n % d)) (pos (m % e)) ≡ ratio_order (pos n) d (pos m) e
+  left_says : n / d ≡ m / e → goes_on (line_of n d m e) ≡ false → order (pos (n % d)) (pos (m % e)) ≡ ratio_order (pos n) d (pos m) e
   left_says h f = go (ltb 0 (n % d)) (ltb 0 (m % e)) refl refl
     where
       go : (u v : Bool) → ltb 0 (n % d) ≡ u → ltb 0 (m % e) ≡ v → order (pos (n % d)) (pos (m % e)) ≡ ratio_order (pos n) d (pos m) e
@@ -97,11 +97,11 @@ module _ (n d m e : ℕ) (hd : 0 < d) (he : 0 < e) where
           let k = ltb-true 0 (n % d) p in
           sym (nat_greater (omega arith)) ∙ second_whole n d m e hd he h k z
       go true true p q =
-          let g = goes_on n d m e (record { wholes = h; first = ltb-true 0 (n % d) p; second = ltb-true 0 (m % e) q }) in
+          let g = goes_on_lem n d m e (record { wholes = h; first = ltb-true 0 (n % d) p; second = ltb-true 0 (m % e) q }) in
           let z : ◌≡◌ {A = ℕ} 0 1 = cc in
           absurd (omega arith)
 
-  ends : goes_on_lem (line_of n d m e) ≡ false → decided (line_of n d m e) ≡ ratio_order (pos n) d (pos m) e
+  ends : goes_on (line_of n d m e) ≡ false → decided (line_of n d m e) ≡ ratio_order (pos n) d (pos m) e
   ends f = go (answer (pos (n / d)) (pos (m / e)))
     where
       go : {o : Order} → Answer (pos (n / d)) (pos (m / e)) o → and_then o (order (pos (n % d)) (pos (m % e))) ≡ ratio_order (pos n) d (pos m) e
@@ -109,15 +109,15 @@ module _ (n d m e : ℕ) (hd : 0 < d) (he : 0 < e) where
       go (is_equal_lem h) = left_says (pos_injective h) f
       go (is_greater h) = whole_more n d m e hd he (<_pos h)
 
-says : (k n d m e : ℕ) → 0 < d → 0 < e → d + e ≤ k → last_says_lem (lines_in k n d m e) ≡ ratio_order (pos n) d (pos m) e
-unfolding lines_in last_says_lem
+says : (k n d m e : ℕ) → 0 < d → 0 < e → d + e ≤ k → last_says (lines_in k n d m e) ≡ ratio_order (pos n) d (pos m) e
+unfolding lines_in last_says
 says zero n d m e hd he p = absurd (omega arith)
-says (suc k) n d m e hd he p = go (goes_on_lem (line_of n d m e)) refl (λ f g. says k e (m % e) d (n % d) f g)
+says (suc k) n d m e hd he p = go (goes_on (line_of n d m e)) refl (λ f g. says k e (m % e) d (n % d) f g)
   where
     go :
-        (t : Bool) → goes_on_lem (line_of n d m e) ≡ t →
-        (0 < m % e → 0 < n % d → m % e + n % d ≤ k → last_says_lem (lines_in k e (m % e) d (n % d)) ≡ ratio_order (pos e) (m % e) (pos d) (n % d)) →
-        last_says_lem (line_of n d m e ∷ cond t (lines_in k e (m % e) d (n % d)) []) ≡ ratio_order (pos n) d (pos m) e
+        (t : Bool) → goes_on (line_of n d m e) ≡ t →
+        (0 < m % e → 0 < n % d → m % e + n % d ≤ k → last_says (lines_in k e (m % e) d (n % d)) ≡ ratio_order (pos e) (m % e) (pos d) (n % d)) →
+        last_says (line_of n d m e ∷ cond t (lines_in k e (m % e) d (n % d)) []) ≡ ratio_order (pos n) d (pos m) e
     go true h f =
         let s = goes n d m e h in
         let a = mod-lt n hd in
@@ -125,9 +125,9 @@ says (suc k) n d m e hd he p = go (goes_on_lem (line_of n d m e)) refl (λ f g. 
         later (line_of n d m e) k e (m % e) d (n % d) (omega arith) ∙ f s.second s.first (omega arith) ∙ turned_over n d m e hd he s.wholes
     go false h f = ends n d m e hd he h
 
-pub last_says : (n d m e : ℕ) → 0 < d → 0 < e → last_says_lem (lines_of n d m e) ≡ ratio_order (pos n) d (pos m) e
+pub last_says_lem : (n d m e : ℕ) → 0 < d → 0 < e → last_says (lines_of n d m e) ≡ ratio_order (pos n) d (pos m) e
 unfolding lines_of
-last_says n d m e hd he = says (d + e) n d m e hd he (omega arith)
+last_says_lem n d m e hd he = says (d + e) n d m e hd he (omega arith)
 
 -- ---- how few lines there are
 fib_next' : (k a b : ℕ) → fib_from (suc (suc k)) a b ≡ fib_from k a b + fib_from (suc k) a b
@@ -200,10 +200,10 @@ before L n d m e hd he s t =
 needs_in : (k n d m e : ℕ) → 0 < d → 0 < e → d + e ≤ k → Needs (length (lines_in k n d m e)) n d m e
 unfolding lines_in fib fib_from
 needs_in zero n d m e hd he p = absurd (omega arith)
-needs_in (suc k) n d m e hd he p = go (goes_on_lem (line_of n d m e)) refl (λ f g. needs_in k e (m % e) d (n % d) f g)
+needs_in (suc k) n d m e hd he p = go (goes_on (line_of n d m e)) refl (λ f g. needs_in k e (m % e) d (n % d) f g)
   where
     go :
-        (t : Bool) → goes_on_lem (line_of n d m e) ≡ t →
+        (t : Bool) → goes_on (line_of n d m e) ≡ t →
         (0 < m % e → 0 < n % d → m % e + n % d ≤ k → Needs (length (lines_in k e (m % e) d (n % d))) e (m % e) d (n % d)) →
         Needs (length (line_of n d m e ∷ cond t (lines_in k e (m % e) d (n % d)) [])) n d m e
     go true h f =

@@ -2,7 +2,7 @@
 use Rattle.std.specs.Prelude.{◌≡◌, ℕ, suc, ◌<◌, ◌≤◌, ◌^◌, ℤ, pos, nat_abs, length}
 use Rattle.fractions.specs.Order.{turned}
 use Rattle.fractions.specs.Fraction.{ratio_order}
-use Rattle.fractions.specs.Turns.{lines_of, last_says_lem, fib}
+use Rattle.fractions.specs.Turns.{lines_of, last_says, fib}
 use Rattle.fractions.specs.Divisor.{Greatest, gcd_of}
 use Rattle.fractions.specs.Point.{Lowest, Bounded, point_order, lowest_of, whole_of}
 use Rattle.fractions.specs.declared.Order.TheVariants.{Less, Equal}
@@ -32,6 +32,6 @@ pub record LowestTerms : Type 0 where
 
 -- two fractions above 0 with pencil and paper: the last line says their order, and the lines are no more than Euclid's: k of them need divisors of at least the (k+1)-th of Fibonacci's numbers. So with D below 2^33 there are at most 48, of two divisions each
 pub record PencilAndPaper : Type 0 where
-  pub answers : (n d m e : ℕ) → 0 < d → 0 < e → last_says_lem (lines_of n d m e) ≡ ratio_order (pos n) d (pos m) e
+  pub answers : (n d m e : ℕ) → 0 < d → 0 < e → last_says (lines_of n d m e) ≡ ratio_order (pos n) d (pos m) e
   pub few : (n d m e : ℕ) → 0 < d → 0 < e → (fib (suc (length (lines_of n d m e))) ≤ d) × (fib (suc (length (lines_of n d m e))) ≤ e)
   pub on_a_chart : (n d m e : ℕ) → 0 < d → 0 < e → d < 2 ^ 33 → length (lines_of n d m e) ≤ 48

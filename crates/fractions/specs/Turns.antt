@@ -15,13 +15,13 @@ abbrev pub line_of : ℕ → ℕ → ℕ → ℕ → Line
 line_of n d m e = record { whole = n / d; left = n % d; whole' = m / e; left' = m % e }
 
 -- "until they differ or one is zero"
-abbrev pub goes_on_lem : Line → Bool
-goes_on_lem l = cond (eqb l.whole l.whole') (cond (ltb 0 l.left) (ltb 0 l.left') false) false
+abbrev pub goes_on : Line → Bool
+goes_on l = cond (eqb l.whole l.whole') (cond (ltb 0 l.left) (ltb 0 l.left') false) false
 
 -- "whole parts first, then the remainders turned over": n over d against m over e, then e over what is left of m against d over what is left of n, since turned over the greater is the lesser. At most k lines
 unfoldable pub lines_in : ℕ → ℕ → ℕ → ℕ → ℕ → List Line
 lines_in zero n d m e = []
-lines_in (suc k) n d m e = let more = lines_in k e (m % e) d (n % d) in line_of n d m e ∷ cond (goes_on_lem (line_of n d m e)) more []
+lines_in (suc k) n d m e = let more = lines_in k e (m % e) d (n % d) in line_of n d m e ∷ cond (goes_on (line_of n d m e)) more []
 
 -- both divisors fall from line to line, so d and e together are enough
 unfoldable pub lines_of : ℕ → ℕ → ℕ → ℕ → List Line
@@ -31,10 +31,10 @@ lines_of n d m e = lines_in (d + e) n d m e
 abbrev pub decided : Line → Order
 decided l = and_then (order (pos l.whole) (pos l.whole')) (order (pos l.left) (pos l.left'))
 
-unfoldable pub last_says_lem : List Line → Order
-last_says_lem [] = Equal
-last_says_lem (l ∷ []) = decided l
-last_says_lem (l ∷ k ∷ ls) = last_says_lem (k ∷ ls)
+unfoldable pub last_says : List Line → Order
+last_says [] = Equal
+last_says (l ∷ []) = decided l
+last_says (l ∷ k ∷ ls) = last_says (k ∷ ls)
 
 -- Fibonacci's numbers, by the two last ones
 unfoldable pub fib_from : ℕ → ℕ → ℕ → ℕ

@@ -15,7 +15,7 @@ use Rattle.orientation.specs.Turn.{det, turn_of}
 use Rattle.line_segment.specs.declared.LineSegment.{LineSegment}
 use Rattle.line_segment.specs.Piece.{point_of, end_order, first_included, second_included, join_by, join_of, piece_of}
 use Rattle.line_segment.specs.Geometry.{run, rise, side}
-use Rattle.line_segment.specs.Segment.{left_by, leftmost_of, right_by, rightmost_of, within, inner_between, stretch_by, stretch_of, touch_of, turn_to, opposed, astride_of, intersect_of, in_bounds_lem, contains_of, moment, over, cramer_of, crossing_of}
+use Rattle.line_segment.specs.Segment.{left_by, leftmost_of, right_by, rightmost_of, within, inner_between, stretch_by, stretch_of, touch_of, turn_to, opposed, astride_of, intersect_of, in_bounds, contains_of, moment, over, cramer_of, crossing_of}
 use Rattle.charts.specs.Fault.{eq_z}
 use Rattle.charts.specs.Piece.{is_upright}
 use Rattle.sweep.specs.Lists.{upto, keep, any, place, sort_into, sort, same_pair, among, pairs, lesser_first, adjacent_from, adjacent}
@@ -45,5 +45,5 @@ Table =
     × (full_order wedge (whole_of (pos 1) (negsuc 1)) 0 1 ≡ Greater)
 
 table : Table
-unfolding gap wedge order ratio_order euclid gcd_of point_order common lowest_of det turn_of point_of end_order first_included second_included join_by join_of piece_of run rise side left_by leftmost_of right_by rightmost_of within inner_between stretch_by stretch_of touch_of turn_to opposed astride_of intersect_of in_bounds_lem contains_of moment over cramer_of crossing_of upto keep any place sort_into sort same_pair among pairs lesser_first adjacent_from adjacent meets same ends beyond least_from least each starts finishes is_none is_crossing is_upright eq_z height_above height_below slope_order full_above full_below full_height_order full_order start crossings queue next takes_part pieces report reported ranged step move_to move answer_of answer run_of overhead slant slant_order finer_order
+unfolding gap wedge order ratio_order euclid gcd_of point_order common lowest_of det turn_of point_of end_order first_included second_included join_by join_of piece_of run rise side left_by leftmost_of right_by rightmost_of within inner_between stretch_by stretch_of touch_of turn_to opposed astride_of intersect_of in_bounds contains_of moment over cramer_of crossing_of upto keep any place sort_into sort same_pair among pairs lesser_first adjacent_from adjacent meets same ends beyond least_from least each starts finishes is_none is_crossing is_upright eq_z height_above height_below slope_order full_above full_below full_height_order full_order start crossings queue next takes_part pieces report reported ranged step move_to move answer_of answer run_of overhead slant slant_order finer_order
 table = (refl, refl, refl, refl)

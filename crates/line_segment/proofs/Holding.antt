@@ -32,34 +32,34 @@ use Rattle.line_segment.specs.declared.EndPoint.{EndPoint}
 use Rattle.line_segment.specs.declared.LineSegment.{LineSegment}
 use Rattle.line_segment.specs.Piece.{point_of}
 use Rattle.line_segment.specs.Geometry.{run, rise, side}
-use Rattle.line_segment.specs.Segment.{inner_between, in_bounds_lem, contains_of}
+use Rattle.line_segment.specs.Segment.{inner_between, in_bounds, contains_of}
 use Rattle.line_segment.proofs.Ends.{pair_order}
 use Rattle.line_segment.proofs.Booleans.{both, and_false, false_and}
 
 -- ---- bounds
 module _ (p : Point) {m : ℕ} {u : ℤ} (x : m ≡ nat_abs u) (e : u ≡ p.x) where
-  pub bounds_last : {n : ℕ} {v : ℤ} → n ≡ nat_abs v → v ≡ p.y → p.d < 2 ^ 33 → m < 2 ^ 48 → ltb n (2 ^ 48) ≡ in_bounds_lem p
-  unfolding in_bounds_lem
+  pub bounds_last : {n : ℕ} {v : ℤ} → n ≡ nat_abs v → v ≡ p.y → p.d < 2 ^ 33 → m < 2 ^ 48 → ltb n (2 ^ 48) ≡ in_bounds p
+  unfolding in_bounds
   bounds_last y f h k = rw (lt-ltb _ _ h, ← e, ← x, lt-ltb _ _ k, y, f)
 
-  pub wide_x : 2 ^ 48 ≤ m → false ≡ in_bounds_lem p
-  unfolding in_bounds_lem
+  pub wide_x : 2 ^ 48 ≤ m → false ≡ in_bounds p
+  unfolding in_bounds
   wide_x k = rw (← e, ← x, le-ltb _ _ k, and_false (ltb p.d (2 ^ 33)) refl)
 
-pub wide_d : (p : Point) → 2 ^ 33 ≤ p.d → false ≡ in_bounds_lem p
-unfolding in_bounds_lem
+pub wide_d : (p : Point) → 2 ^ 33 ≤ p.d → false ≡ in_bounds p
+unfolding in_bounds
 wide_d p k = rw (le-ltb _ _ k)
 
-pub bounded : (p : Point) → in_bounds_lem p ≡ true → Bounded p
-unfolding in_bounds_lem
+pub bounded : (p : Point) → in_bounds p ≡ true → Bounded p
+unfolding in_bounds
 bounded p e =
     let h = both e in
     let k = both h.1 in
     record { d_small = ltb-true _ _ h.0; x_small = ltb-true _ _ k.0; y_small = ltb-true _ _ k.1 }
 
-pub in_bounds : (p : Point) → Bounded p → in_bounds_lem p ≡ true
-unfolding in_bounds_lem
-in_bounds p h = rw (lt-ltb _ _ h.d_small, lt-ltb _ _ h.x_small, lt-ltb _ _ h.y_small)
+pub in_bounds_lem : (p : Point) → Bounded p → in_bounds p ≡ true
+unfolding in_bounds
+in_bounds_lem p h = rw (lt-ltb _ _ h.d_small, lt-ltb _ _ h.x_small, lt-ltb _ _ h.y_small)
 
 -- ---- an end against a point, both times D
 module _ (e : EndPoint) (p : Point) {a b x y c d : ℤ} (h : a ≡ c *ℤ pos p.d) (k : b ≡ d *ℤ pos p.d) (f : c ≡ e.x) (g : d ≡ e.y) (u : x ≡ p.x) (v : y ≡ p.y) where
@@ -136,15 +136,15 @@ module _ (x y : ℤ) {o : Order} (e : o ≡ order x y) where
 
 -- ---- the three questions
 module _ (s : LineSegment) (p : Point) where
-  pub holds_between : in_bounds_lem p ≡ true → is_straight (turn_of (side s p)) ≡ true → {r : Bool} → r ≡ inner_between p s.min s.max → r ≡ contains_of s p
+  pub holds_between : in_bounds p ≡ true → is_straight (turn_of (side s p)) ≡ true → {r : Bool} → r ≡ inner_between p s.min s.max → r ≡ contains_of s p
   unfolding contains_of
   holds_between h k e = e ∙ rw (h, k)
 
   pub off_line : is_straight (turn_of (side s p)) ≡ false → false ≡ contains_of s p
   unfolding contains_of
-  off_line k = rw (and_false (in_bounds_lem p) (false_and (inner_between p s.min s.max) k))
+  off_line k = rw (and_false (in_bounds p) (false_and (inner_between p s.min s.max) k))
 
-  pub out_of_bounds : in_bounds_lem p ≡ false → false ≡ contains_of s p
+  pub out_of_bounds : in_bounds p ≡ false → false ≡ contains_of s p
   unfolding contains_of
   out_of_bounds h = rw h
 

@@ -19,10 +19,10 @@ use Rattle.line_segment.specs.declared.Meeting.{Meeting}
 use Rattle.line_segment.specs.declared.Meeting.TheVariants.{Nothing, Crossing, Overlap}
 use Rattle.line_segment.specs.Piece.{point_of, end_order, HasLength}
 use Rattle.line_segment.specs.Geometry.{side, Common, OneLine}
-use Rattle.line_segment.specs.Segment.{stretch_by, stretch_of, intersect_of, in_bounds_lem, contains_of, cramer_of, crossing_of}
+use Rattle.line_segment.specs.Segment.{stretch_by, stretch_of, intersect_of, in_bounds, contains_of, cramer_of, crossing_of}
 use Rattle.line_segment.specs.Demand.{says_yes, says_overlap, Meet, SaysYesExactly, OverlapExactly, SameWhicheverAsks, CrossingIsCramers, OverlapEnds, ContainsExactly}
 use Rattle.line_segment.proofs.Booleans.{no, clash, both}
-use Rattle.line_segment.proofs.Holding.{in_bounds, holds_between}
+use Rattle.line_segment.proofs.Holding.{in_bounds_lem, holds_between}
 use Rattle.line_segment.proofs.Sides.{tilt, one_point}
 pub use Rattle.line_segment.proofs.CramersPoint.{crossing_stays_bounded}
 use Rattle.line_segment.proofs.CramersPoint.{cramer_first, cramer_second, cramer_positive, crossing_swapped, crossing_lowest, crossing_same}
@@ -227,6 +227,6 @@ zero_straight z e = ap (λ (w : ℤ). is_straight (turn_of w)) e ∙ ap is_strai
 pub contains_exactly : ContainsExactly
 unfolding contains_of
 contains_exactly s p l d h = (
-  (λ e. let k = both (both {x = in_bounds_lem p} e).1 in between_lies s l p (straight_zero (side s p) k.0) k.1),
-  (λ on. sym (holds_between s p (in_bounds p h) (zero_straight (side s p) on.line) (sym (lies_between s l p on)))),
+  (λ e. let k = both (both {x = in_bounds p} e).1 in between_lies s l p (straight_zero (side s p) k.0) k.1),
+  (λ on. sym (holds_between s p (in_bounds_lem p h) (zero_straight (side s p) on.line) (sym (lies_between s l p on)))),
 )

@@ -86,11 +86,11 @@ intersect_of a b =
     (astride_of (opposed b_min b_max) a b)))
 
 -- "D stays below 2^33, X and Y below 2^48 in size." A point beyond that is on no piece
-unfoldable pub in_bounds_lem : Point → Bool
-in_bounds_lem p = ltb p.d (2 ^ 33) && (ltb (nat_abs p.x) (2 ^ 48) && ltb (nat_abs p.y) (2 ^ 48))
+unfoldable pub in_bounds : Point → Bool
+in_bounds p = ltb p.d (2 ^ 33) && (ltb (nat_abs p.x) (2 ^ 48) && ltb (nat_abs p.y) (2 ^ 48))
 
 unfoldable pub contains_of : LineSegment → Point → Bool
-contains_of s p = in_bounds_lem p && (is_straight (turn_of (side s p)) && inner_between p s.min s.max)
+contains_of s p = in_bounds p && (is_straight (turn_of (side s p)) && inner_between p s.min s.max)
 
 -- Cramer's rule for the two lines, each rise * x - run * y = moment
 unfoldable pub moment : LineSegment → ℤ

@@ -12,7 +12,7 @@ use Rattle.fractions.specs.Point.{point_order, common, lowest_of}
 use Rattle.orientation.specs.Turn.{det, turn_of}
 use Rattle.line_segment.specs.Piece.{point_of, end_order, first_included, second_included, join_by, join_of, piece_of}
 use Rattle.line_segment.specs.Geometry.{run, rise, side}
-use Rattle.line_segment.specs.Segment.{left_by, leftmost_of, right_by, rightmost_of, within, inner_between, stretch_by, stretch_of, touch_of, turn_to, opposed, astride_of, intersect_of, in_bounds_lem, contains_of, moment, over, cramer_of, crossing_of}
+use Rattle.line_segment.specs.Segment.{left_by, leftmost_of, right_by, rightmost_of, within, inner_between, stretch_by, stretch_of, touch_of, turn_to, opposed, astride_of, intersect_of, in_bounds, contains_of, moment, over, cramer_of, crossing_of}
 use Rattle.charts.specs.Fault.{outside, eq_z}
 use Rattle.charts.specs.Chart.{number_at}
 use Rattle.charts.specs.Piece.{kind_of, coordinate_of, piece_at, is_upright}
@@ -71,7 +71,7 @@ record Runs : Type 0 where
   refused : count_line (ascii "refused ") 1 ≡ ascii "refused 1\n"
 
 runs : Runs
-unfolding two gap touch text_at order ratio_order euclid gcd_of point_order common lowest_of det turn_of point_of end_order first_included second_included join_by join_of piece_of run rise side left_by leftmost_of right_by rightmost_of within inner_between stretch_by stretch_of touch_of turn_to opposed astride_of intersect_of in_bounds_lem contains_of moment over cramer_of crossing_of outside number_at kind_of coordinate_of piece_at along_by along_of where_by where_of upto keep any place sort_into sort same_pair among pairs lesser_first adjacent_from adjacent meets same ends beyond least_from least each starts finishes is_none is_crossing is_upright eq_z height_above height_below slope_order full_above full_below full_height_order start crossings queue next takes_part pieces report reported ranged step move_to move answer_of answer run_of overhead slant slant_order finer_order ascii digits decimal signed_decimal low_of high_of count_line complete_line number_text point_text end_text place_text pair_line pair_lines chart_lines
+unfolding two gap touch text_at order ratio_order euclid gcd_of point_order common lowest_of det turn_of point_of end_order first_included second_included join_by join_of piece_of run rise side left_by leftmost_of right_by rightmost_of within inner_between stretch_by stretch_of touch_of turn_to opposed astride_of intersect_of in_bounds contains_of moment over cramer_of crossing_of outside number_at kind_of coordinate_of piece_at along_by along_of where_by where_of upto keep any place sort_into sort same_pair among pairs lesser_first adjacent_from adjacent meets same ends beyond least_from least each starts finishes is_none is_crossing is_upright eq_z height_above height_below slope_order full_above full_below full_height_order start crossings queue next takes_part pieces report reported ranged step move_to move answer_of answer run_of overhead slant slant_order finer_order ascii digits decimal signed_decimal low_of high_of count_line complete_line number_text point_text end_text place_text pair_line pair_lines chart_lines
 runs = record { two_ends = refl; two_text = refl; gap_ends = refl; gap_text = refl; touch_ends = refl; touch_text = refl; none_ends = refl; none_text = refl; refused = refl }
 
 record Table : Type 0 where

@@ -11,7 +11,7 @@ use Rattle.fractions.specs.Point.{point_order, common, lowest_of}
 use Rattle.orientation.specs.Turn.{det, turn_of}
 use Rattle.line_segment.specs.Piece.{point_of, end_order, first_included, second_included, join_by, join_of, piece_of}
 use Rattle.line_segment.specs.Geometry.{run, rise, side}
-use Rattle.line_segment.specs.Segment.{left_by, leftmost_of, right_by, rightmost_of, within, inner_between, stretch_by, stretch_of, touch_of, turn_to, opposed, astride_of, intersect_of, in_bounds_lem, contains_of, moment, over, cramer_of, crossing_of}
+use Rattle.line_segment.specs.Segment.{left_by, leftmost_of, right_by, rightmost_of, within, inner_between, stretch_by, stretch_of, touch_of, turn_to, opposed, astride_of, intersect_of, in_bounds, contains_of, moment, over, cramer_of, crossing_of}
 use Rattle.charts.specs.Fault.{outside, eq_z}
 use Rattle.charts.specs.Chart.{number_at}
 use Rattle.charts.specs.Piece.{kind_of, coordinate_of, piece_at, is_upright}
@@ -38,5 +38,5 @@ pub record Hides : Type 0 where
   pub whole_leaves : without 1 (answer (ported 3 (piece_at gap)) 9).listed ≡ []
 
 pub hides : Hides
-unfolding order ratio_order euclid gcd_of point_order common lowest_of det turn_of point_of end_order first_included second_included join_by join_of piece_of run rise side left_by leftmost_of right_by rightmost_of within inner_between stretch_by stretch_of touch_of turn_to opposed astride_of intersect_of in_bounds_lem contains_of moment over cramer_of crossing_of outside number_at kind_of coordinate_of piece_at upto keep any place sort_into sort same_pair among pairs lesser_first adjacent_from adjacent meets same start ends beyond queue least_from least next list each starts finishes turns takes_part pieces report drop reported wait examine_free examine stay enter ranged examined step move_to move onwards taken visited is_none answer_of answer run_of is_upright eq_z height_above height_below height_order slope_order rank_order cut_out lowered of_piece without
+unfolding order ratio_order euclid gcd_of point_order common lowest_of det turn_of point_of end_order first_included second_included join_by join_of piece_of run rise side left_by leftmost_of right_by rightmost_of within inner_between stretch_by stretch_of touch_of turn_to opposed astride_of intersect_of in_bounds contains_of moment over cramer_of crossing_of outside number_at kind_of coordinate_of piece_at upto keep any place sort_into sort same_pair among pairs lesser_first adjacent_from adjacent meets same start ends beyond queue least_from least next list each starts finishes turns takes_part pieces report drop reported wait examine_free examine stay enter ranged examined step move_to move onwards taken visited is_none answer_of answer run_of is_upright eq_z height_above height_below height_order slope_order rank_order cut_out lowered of_piece without
 hides = record { whole_ended = refl; cut_ended = refl; cut_lists = refl; whole_leaves = refl }

@@ -21,7 +21,7 @@ use Rattle.charts.proofs.Rows.{is_true, is_false, says_lt}
 use Rattle.outline.specs.Counting.{count}
 use Rattle.outline.specs.Outline.{side_of}
 use Rattle.region.specs.Region.{counted, right_of, met_side, region_of}
-use Rattle.region.specs.Demand.{crosses_right, CountsHalfOpen, even_odd_lem, EvenOdd}
+use Rattle.region.specs.Demand.{crosses_right, CountsHalfOpen, even_odd, EvenOdd}
 
 -- how an end lies to the half-line is how its height lies to the peak's
 height₀ : (x y u v : ℤ) → (x +ℤ pos 1 -ℤ x) *ℤ (v -ℤ y) -ℤ (y -ℤ y) *ℤ (u -ℤ x) ≡ v -ℤ y
@@ -113,7 +113,7 @@ unfolding count
 same_count f g h zero = refl
 same_count f g h (suc n) = ap₂ (λ (k : ℕ) (b : Bool). k + cond b 1 0) (same_count f g h n) (h n)
 
-pub even_odd : EvenOdd
-unfolding region_of even_odd_lem met_side
-even_odd outline n p =
+pub even_odd_lem : EvenOdd
+unfolding region_of even_odd met_side
+even_odd_lem outline n p =
     rw (same_count (met_side outline n p) (λ i. crosses_right p (side_of outline n i)) (λ i. counts_half_open p (side_of outline n i)) n)

@@ -45,12 +45,12 @@ abbrev pub CountsHalfOpen : Type 0
 CountsHalfOpen = (p : Corner) (s : LineSegment) → counted (half_line_of p (right_of p) s) ≡ crosses_right p s
 
 -- so the answer is that of the even-odd rule, for any outline, one that crosses itself too
-unfoldable pub even_odd_lem : List ℤ → ℕ → Corner → Region
-even_odd_lem outline n p =
+unfoldable pub even_odd : List ℤ → ℕ → Corner → Region
+even_odd outline n p =
     cond (ltb (first (on_side outline n p) n) n) Region.On (parity (count (λ i. crosses_right p (side_of outline n i)) n))
 
 abbrev pub EvenOdd : Type 0
-EvenOdd = (outline : List ℤ) (n : ℕ) (p : Corner) → region_of outline n p ≡ even_odd_lem outline n p
+EvenOdd = (outline : List ℤ) (n : ℕ) (p : Corner) → region_of outline n p ≡ even_odd outline n p
 
 -- ---- how the outline is given
 -- beginning at the next corner, the first one last, changes no answer; so beginning at any other does not

@@ -8,7 +8,7 @@ ghost use Rattle.fractions.specs.Point.{Bounded, point_order};
 ghost use Rattle.fractions.specs.Fraction.{above};
 ghost use Rattle.line_segment.specs.Piece.{point_of};
 ghost use Rattle.line_segment.specs.Geometry.{side};
-ghost use Rattle.line_segment.specs.Segment.{inner_between, in_bounds_lem, contains_of};
+ghost use Rattle.line_segment.specs.Segment.{inner_between, in_bounds, contains_of};
 
 use fractions::{Fraction, Order, Point};
 use integers::size;
@@ -26,7 +26,7 @@ const PLAIN_LIMIT: u64 = 70368744177664;
 
 // Whether the numbers of a point are as small as those of a chart's points.
 fn in_bounds(p: Point) -> bool
-    ensures { result ≡ in_bounds_lem p }
+    ensures { result ≡ in_bounds p }
 {
     if p.d < D_LIMIT {
         if size(p.x) < SIZE_LIMIT {

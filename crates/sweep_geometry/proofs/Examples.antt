@@ -14,7 +14,7 @@ use Rattle.orientation.specs.Turn.{det, turn_of}
 use Rattle.line_segment.specs.declared.LineSegment.{LineSegment}
 use Rattle.line_segment.specs.Piece.{point_of, end_order, first_included, second_included, join_by, join_of, piece_of}
 use Rattle.line_segment.specs.Geometry.{run, rise, side}
-use Rattle.line_segment.specs.Segment.{left_by, leftmost_of, right_by, rightmost_of, within, inner_between, stretch_by, stretch_of, touch_of, turn_to, opposed, astride_of, intersect_of, in_bounds_lem, contains_of, moment, over, cramer_of, crossing_of}
+use Rattle.line_segment.specs.Segment.{left_by, leftmost_of, right_by, rightmost_of, within, inner_between, stretch_by, stretch_of, touch_of, turn_to, opposed, astride_of, intersect_of, in_bounds, contains_of, moment, over, cramer_of, crossing_of}
 use Rattle.charts.specs.Fault.{eq_z}
 use Rattle.charts.specs.Piece.{is_upright}
 use Rattle.sweep.specs.Lists.{upto, keep, any, place, sort_into, sort, same_pair, among, pairs, lesser_first, adjacent_from, adjacent}
@@ -41,5 +41,5 @@ Table =
     × (answer (ported 0 gap) 9 ≡ record { listed = []; steps = 0; ended = true; complete = true; last = none })
 
 table : Table
-unfolding gap order ratio_order euclid gcd_of point_order common lowest_of det turn_of point_of end_order first_included second_included join_by join_of piece_of run rise side left_by leftmost_of right_by rightmost_of within inner_between stretch_by stretch_of touch_of turn_to opposed astride_of intersect_of in_bounds_lem contains_of moment over cramer_of crossing_of upto keep any place sort_into sort same_pair among pairs lesser_first adjacent_from adjacent meets same start ends beyond queue least_from least next list each starts finishes turns takes_part pieces report drop reported wait examine_free examine stay enter ranged examined step move_to move onwards is_none answer_of answer run_of is_upright eq_z height_above height_below height_order slope_order rank_order full_above full_below full_height_order full_order
+unfolding gap order ratio_order euclid gcd_of point_order common lowest_of det turn_of point_of end_order first_included second_included join_by join_of piece_of run rise side left_by leftmost_of right_by rightmost_of within inner_between stretch_by stretch_of touch_of turn_to opposed astride_of intersect_of in_bounds contains_of moment over cramer_of crossing_of upto keep any place sort_into sort same_pair among pairs lesser_first adjacent_from adjacent meets same start ends beyond queue least_from least next list each starts finishes turns takes_part pieces report drop reported wait examine_free examine stay enter ranged examined step move_to move onwards is_none answer_of answer run_of is_upright eq_z height_above height_below height_order slope_order rank_order full_above full_below full_height_order full_order
 table = (refl, refl)
