@@ -1,0 +1,29 @@
+-- `draw`: by the verdict on the numbers and their room; then the pieces.
+use mathlib.Core.Path.{◌≡◌, sym, ◌∙◌}
+use lib.ListN.{length}
+use Rattle.charts.specs.declared.Verdict.TheVariants.{Accepted}
+use Rattle.folded_line.specs.Drawing.{drawing_of}
+use Rattle.folded_line.proofs.Outcomes.{ahead, draws_refused, draws_done}
+use Rattle.line_drawing.proofs.draw.Goals as goal
+use Rattle.line_drawing.proofs.draw.Goals.{In-Accepted}
+
+-- the drawing goes ahead, with n pieces
+goes_on : (c : In-Accepted)
+    → let a = c.args in drawing_of a.m a.h a.s (length a.out.now) ≡ Accepted c.in-Accepted.n
+goes_on c = sym c.drawing_of.ensures ∙ c.in-Accepted.is
+
+pub put_pieces-requires : goal.put_pieces-requires
+put_pieces-requires c =
+    let a = c.args in
+    let g = ahead a.m a.h a.s a.out.now _ (goes_on c.before) in
+    (g.small, g.few, g.room)
+
+pub returns-in-Refused : goal.returns-in-Refused
+returns-in-Refused c =
+    let a = c.args in
+    draws_refused a.m a.h a.s a.out.now c.refused.result _ _ (sym c.drawing_of.ensures ∙ c.in-Refused.is) c.refused.ensures
+
+pub returns-in-Accepted : goal.returns-in-Accepted
+returns-in-Accepted c =
+    let a = c.args in
+    draws_done a.m a.h a.s a.out.now c.done.result _ _ (goes_on c.before.before.before.before) c.done.ensures c.put_pieces.ensures
