@@ -1,4 +1,5 @@
 -- `put_pieces`: p pieces have gone out, and of piece p the numbers below c; the others end where all do.
+use borrow.Author.Rules.{rules}
 use mathlib.Core.Path.{◌≡◌, ap, ◌∙◌}
 use Prim.Native.Nat.{◌+◌, ◌*◌, ◌%◌}
 use native.Mathlib.Omega.{arith}
@@ -10,20 +11,18 @@ use mir.Facts.{to_z-of_z}
 use Rattle.chart_file.specs.Coordinate.{stored}
 use Rattle.chart_writer.proofs.Numbers.{kind_small, coordinate_small, Rest, all_rest, kind_room, kind_rest, coordinate_room, coordinate_rest, no_rest}
 use Rattle.file_writer.proofs.put_pieces.Goals as goal
-use Rattle.file_writer.proofs.put_pieces.Goals.{After-out-1, After-stored, At-loop-c}
+use Rattle.file_writer.proofs.put_pieces.Goals.{After-stored, At-loop-c}
 
 pub loop-p-init : goal.loop-p-init
 loop-p-init c = let a = c.args in (omega arith, all_rest a.list.now a.at a.out.now)
 
-kept : (c : After-out-1)
-    → let v = get_or c.args.list.now (5 * c.loop-p.p) (pos 0) in to_z w32 (of_z w32 v) ≡ v
-kept c = to_z-of_z {w = w32} (record { sfits = c.out-1.given })
-
 pub overflow_cast-out : goal.overflow_cast-out
 overflow_cast-out c =
+    let v = get_or c.args.list.now (5 * c.loop-p.p) (pos 0) in
+    let kept : to_z w32 (of_z w32 v) ≡ v = to_z-of_z {w = w32} (search rules) in
     let i = 5 * c.loop-p.p in
     let k = kind_small (i % 5) (get_or c.args.list.now i (pos 0)) (omega arith) (c.requires.1.ranged i (omega arith)) in
-    rw (kept c, k.0) (tt, record { fits = omega (arith, k.1) })
+    rw (kept, k.0) (tt, record { fits = omega (arith, k.1) })
 
 pub bounds-out-next : goal.bounds-out-next
 bounds-out-next c =
@@ -40,16 +39,18 @@ loop-c-init c = (omega arith, omega arith, λ at before w. w)
 here : (c : At-loop-c)
     → let a = c.args in Rest a.list.now a.at a.out.now (5 * c.loop-p.p + c.loop-c.c) c.loop-c.next c.loop-c.out
 here c =
+    let v = get_or c.args.list.now (5 * c.loop-p.p) (pos 0) in
+    let kept : to_z w32 (of_z w32 v) ≡ v = to_z-of_z {w = w32} (search rules) in
     let a = c.args in
     let l = c.loop-p in
     c.loop-c.invariant.2 a.at a.out.now
-    (rw (kept c.before) (kind_rest a.list.now a.at a.out.now (5 * l.p) l.next l.out l.invariant.1 (omega arith) (omega arith) (5 * l.p + 1) (omega arith)))
+    (rw kept (kind_rest a.list.now a.at a.out.now (5 * l.p) l.next l.out l.invariant.1 (omega arith) (omega arith) (5 * l.p + 1) (omega arith)))
 
 -- what the coordinate is stored as
 said : (c : After-stored)
     →
     c.stored.result ≡ stored (get_or c.args.list.now (5 * c.loop-p.p + c.loop-c.c) (pos 0))
-said c = c.stored.ensures ∙ ap stored (to_z-of_z {w = w32} (record { sfits = c.stored-arg-1.given }))
+said c = c.stored.ensures ∙ ap stored (to_z-of_z {w = w32} (search rules))
 
 pub put_groups-next-requires : goal.put_groups-next-requires
 put_groups-next-requires c =
