@@ -122,7 +122,7 @@ pub fn same(p: Point, q: Point) -> bool
 
 // End e stands at p.
 pub fn end_at(table: &[i16], e: u16, p: Point) -> bool
-    ensures { (n : ℕ) → result ≡ end-at (chart_in n table.now) p e }
+    ensures { (n : ℕ) → result ≡ end_at (chart_in n table.now) p e }
 {
     same(end_point(table, e), p)
 }
@@ -158,14 +158,14 @@ fn rough_crossing(table: &[i16], c: u16) -> Point
 
 // The crossing of pair a is before that of pair b.
 pub fn crossing_before(table: &[i16], a: u16, b: u16) -> bool
-    ensures { (n : ℕ) → result ≡ crossing-before (chart_in n table.now) a b }
+    ensures { (n : ℕ) → result ≡ crossing_before (chart_in n table.now) a b }
 {
     less(rough_crossing(table, a), rough_crossing(table, b))
 }
 
 // The crossing of pair c is at p.
 pub fn crossing_at(table: &[i16], c: u16, p: Point) -> bool
-    ensures { (n : ℕ) → result ≡ crossing-at (chart_in n table.now) p c }
+    ensures { (n : ℕ) → result ≡ crossing_at (chart_in n table.now) p c }
 {
     same(rough_crossing(table, c), p)
 }

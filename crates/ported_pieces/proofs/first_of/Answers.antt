@@ -1,0 +1,8 @@
+-- `ported_pieces::first_of` meets its contract.
+use mathlib.Core.Path.{refl}
+use Rattle.ported_arrays.specs.Numbers.{pair_of}
+use Rattle.ported_pieces.proofs.first_of.Goals as goal
+
+pub returns : goal.returns
+unfolding pair_of
+returns c = refl
