@@ -1,4 +1,5 @@
-# make              proves and builds the program target/bin/chart and the library target/staticlib/libchart_c.a
+# make              proves and builds the program target/bin/chart and the library target/staticlib/libchart_c.a, which is
+#                   the static library of the crate chart_c_c
 # make test         runs the gate: every proof and every test
 # make install      puts the header, the library, its pkg-config file and the program under PREFIX (and DESTDIR before it)
 # make uninstall    takes them away again
@@ -14,19 +15,19 @@ to = $(DESTDIR)$(PREFIX)
 installed = include/mirtalughe.h lib/libmirtalughe.a lib/pkgconfig/mirtalughe.pc bin/chart
 fan = examples/booster_fan
 line = examples/folded_line
-sources = crates.txt $(shell find crates -name '*.rt' -o -name '*.antt')
+sources = crates.txt $(shell find crates -name out -prune -o '(' -name '*.rt' -o -name '*.antt' ')' -print)
 program = target/bin/chart
 library = target/staticlib/libchart_c.a
 
 all: $(program) $(library)
 
 $(program): $(sources)
-	rt check chart
-	touch $@
+	cd crates/chart && rt run < /dev/null
+	install -D -m 755 crates/chart/out/chart $@
 
 $(library): $(sources)
-	rt staticlib chart_c
-	touch $@
+	cd crates/chart_c_c && rt lib
+	install -D -m 644 crates/chart_c_c/out/libchart_c_c.a $@
 
 test:
 	bash .ci/run

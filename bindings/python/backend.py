@@ -24,7 +24,7 @@ def shared(made):
     """Makes the static library a shared one."""
     archive = Path(os.environ.get("STATICLIB") or ROOT / "target/staticlib") / "libchart_c.a"
     if not archive.is_file():
-        raise SystemExit(f"{archive} is not there: run `rt staticlib chart_c`, or set STATICLIB to its folder")
+        raise SystemExit(f"{archive} is not there: run `make`, or set STATICLIB to its folder")
     words = [os.environ.get("CC", "cc"), "-shared", "-o", made, "-Wl,--whole-archive", archive, "-Wl,--no-whole-archive"]
     done = subprocess.run(words, capture_output=True, text=True)
     if done.returncode:

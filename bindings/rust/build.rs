@@ -1,5 +1,5 @@
-//! Links libchart_c.a, which `rt staticlib chart_c` proves and writes: to target/staticlib of this repository, or
-//! wherever STATICLIB says. The crate's sizes are those of the library's header.
+//! Links libchart_c.a, which `make` proves and writes: to target/staticlib of this repository, or wherever STATICLIB
+//! says. The crate's sizes are those of the library's header.
 
 use std::fs;
 use std::path::PathBuf;
@@ -29,7 +29,7 @@ fn main() {
   let library = folder.join("libchart_c.a");
   if !library.is_file() {
     println!(
-      "cargo::error={} is not there: run `rt staticlib chart_c`, or set STATICLIB to its folder",
+      "cargo::error={} is not there: run `make`, or set STATICLIB to its folder",
       library.display()
     );
     return;

@@ -1,6 +1,7 @@
-# Makes a file of the library Rust: what only proofs read goes, and structs are copied as Rattle copies them.
+# Makes a file of the library Rust: what only proofs read goes, and so does the derive by which Rattle lets a value go.
 /^ghost use /d
-/^ *\(requires\|ensures\) { /{
+/^#!\{0,1\}\[tactic(/d
+/^ *\(requires\|ensures\)\( [a-z_0-9]\{1,\}\)\{0,1\} { /{
 :contract
 / }$/!{
 N
@@ -8,4 +9,5 @@ b contract
 }
 d
 }
-s/^\(pub \)\{0,1\}\(struct\|enum\) /#[derive(Clone, Copy)]\n&/
+/^#\[derive(Drop)\]$/d
+s/^\(#\[derive(.*\), Drop)\]$/\1)]/

@@ -13,32 +13,32 @@ BEGIN, END = "<!-- believed: tests/documents/believed.py -->\n\n", "\n<!-- /beli
 # What is read for each demand, FILE:NAME,NAME of crates/; and what is pinned, FILE:NAME by a statement. "what is read" pins a
 # definition where the statements read there say all that is promised of it.
 LISTS = """
-charts/specs/Chart:verdictOf RefusesExactly
-charts/specs/Answer:listingOf ListingRefusesExactly
-charts/specs/Pair:pairVerdictOf PairRefusesExactly
-charts/specs/Piece:pieceAt PiecesAsGiven
+charts/specs/Chart:verdict_of RefusesExactly
+charts/specs/Answer:listing_of ListingRefusesExactly
+charts/specs/Pair:pair_verdict_of PairRefusesExactly
+charts/specs/Piece:piece_at PiecesAsGiven
 """
 TEST = """
-line_segment/specs/Segment:intersectOf `SaysYesExactly` and `OverlapExactly`
-line_segment/specs/Segment:crossingOf CrossingIsCramers
-line_segment/specs/Segment:containsOf ContainsExactly
+line_segment/specs/Segment:intersect_of `SaysYesExactly` and `OverlapExactly`
+line_segment/specs/Segment:crossing_of CrossingIsCramers
+line_segment/specs/Segment:contains_of ContainsExactly
 """
 SWEEP = """
-bentley_ottmann/specs/Swept:sweepOf what is read
-bentley_ottmann/specs/Swept:lentAfter what is read
+bentley_ottmann/specs/Swept:sweep_of what is read
+bentley_ottmann/specs/Swept:lent_after what is read
 """
 FULL = """
-full_sweep/specs/Swept:sweepOf what is read
-full_sweep/specs/Swept:lentAfter what is read
+full_sweep/specs/Swept:sweep_of what is read
+full_sweep/specs/Swept:lent_after what is read
 """
 PAIRS = """
-naive/specs/AllPairs:allPairsOf what is read
-naive/specs/AllPairs:lentAfter what is read
+naive/specs/AllPairs:all_pairs_of what is read
+naive/specs/AllPairs:lent_after what is read
 """
 DEMANDS = [
     (
         "points and pieces",
-        "fractions/specs/Point:pointOrder line_segment/specs/Piece:pieceOf,HasLength line_segment/specs/Geometry:LiesOn",
+        "fractions/specs/Point:point_order line_segment/specs/Piece:piece_of,HasLength line_segment/specs/Geometry:LiesOn",
         "",
     ),
     (
@@ -51,8 +51,8 @@ DEMANDS = [
         "chart_file/specs/Demand:ReadsExactly,LentExactly,ReadsFile,FileReads chart_file/specs/Reading:Reads",
         LISTS
         + """
-chart_file/specs/Reading:readingOf ReadsExactly
-chart_file/specs/Reading:lentReading LentExactly
+chart_file/specs/Reading:reading_of ReadsExactly
+chart_file/specs/Reading:lent_reading LentExactly
 """,
     ),
     (
@@ -60,10 +60,10 @@ chart_file/specs/Reading:lentReading LentExactly
         "chart_writer/specs/Demand:RefusesExactly,RefusesWhole,DoneExactly,WritesFewest,ReadsWritten,WritesRead",
         LISTS
         + """
-chart_file/specs/Reading:readingOf ReadsExactly
-chart_file/specs/Reading:lentReading LentExactly
-chart_writer/specs/Writing:writingOf RefusesExactly
-chart_writer/specs/Writing:writtenBy what is read
+chart_file/specs/Reading:reading_of ReadsExactly
+chart_file/specs/Reading:lent_reading LentExactly
+chart_writer/specs/Writing:writing_of RefusesExactly
+chart_writer/specs/Writing:written_by what is read
 """,
     ),
     (
@@ -83,9 +83,9 @@ chart_writer/specs/Writing:writtenBy what is read
         LISTS
         + TEST
         + """
-place/specs/Place:placeOf PlaceIsDue
-place/specs/Place:whereOf `AtExactly` and `AlongExactly`
-place/specs/Pair:placeAnswerOf AnswerIsDue
+place/specs/Place:place_of PlaceIsDue
+place/specs/Place:where_of `AtExactly` and `AlongExactly`
+place/specs/Pair:place_answer_of AnswerIsDue
 """,
     ),
     (
@@ -98,8 +98,8 @@ place/specs/Pair:placeAnswerOf AnswerIsDue
         "supplied/specs/Demand:RefusesInOrder,SaysWhatIsDue,OneIsDue,AcceptsExactly,AcceptsLists,AcceptsAllPairs,"
         "AcceptsLesserFirst,RefusesOneLess,RefusesAnother,RefusesTwice",
         LISTS + PAIRS + """
-supplied/specs/Checking:checkedOf `SaysWhatIsDue` and `RefusesInOrder`
-naive/specs/AllPairs:pairsOf `ListsExactly` of naive
+supplied/specs/Checking:checked_of `SaysWhatIsDue` and `RefusesInOrder`
+naive/specs/AllPairs:pairs_of `ListsExactly` of naive
 """,
     ),
     (
@@ -107,10 +107,10 @@ naive/specs/AllPairs:pairsOf `ListsExactly` of naive
         "folded_line/specs/Demand:FoldsToNearest,RefusesExactly,RefusesWhole,DoneExactly,HoldsFolded,HoldsNothingElse,"
         "HoldsBetween,RunsLeftToRight,AcceptedByAll",
         """
-charts/specs/Chart:verdictOf RefusesExactly
+charts/specs/Chart:verdict_of RefusesExactly
 folded_line/specs/Folded:folded FoldsToNearest
-folded_line/specs/Drawing:drawingOf RefusesExactly
-folded_line/specs/Drawing:drawnBy what is read
+folded_line/specs/Drawing:drawing_of RefusesExactly
+folded_line/specs/Drawing:drawn_by what is read
 folded_line/specs/Line:line RunsLeftToRight
 """,
     ),
@@ -118,16 +118,16 @@ folded_line/specs/Line:line RunsLeftToRight
         "2, an open chart",
         "open_chart/specs/Demand:AddsExactly,DropsExactly,ListsWhenRoomy,CountsUsed,PiecesAsGiven,KeepsLength,RefusedAltersNothing,"
         "AltersOnePlace,AddsAfterDropping,BeginsEmpty,StaysTrue,ListsAfresh,ListsExactly,ListsInOrder,ListsOnce "
-        "open_chart/specs/Changes:changedOf,afterAdding,afterDropping,emptyingOf,afterEmptying,usedOf "
-        "open_chart/specs/Listing:openPairsOf,lentAfter",
+        "open_chart/specs/Changes:changed_of,after_adding,after_dropping,emptying_of,after_emptying,used_of "
+        "open_chart/specs/Listing:open_pairs_of,lent_after",
         LISTS
         + TEST
         + """
 open_chart/specs/Changes:adding AddsExactly
 open_chart/specs/Changes:dropping DropsExactly
-open_chart/specs/Listing:listingOn ListsWhenRoomy
-open_chart/specs/Memory:usedBelow CountsUsed
-open_chart/specs/Listing:openPairs `ListsExactly`, `ListsInOrder` and `ListsOnce`
+open_chart/specs/Listing:listing_on ListsWhenRoomy
+open_chart/specs/Memory:used_below CountsUsed
+open_chart/specs/Listing:open_pairs `ListsExactly`, `ListsInOrder` and `ListsOnce`
 """,
     ),
     (
@@ -136,8 +136,8 @@ open_chart/specs/Listing:openPairs `ListsExactly`, `ListsInOrder` and `ListsOnce
         "same_order/specs/Demand:PlainIsPorted,EnoughBudget,RefusedAlike",
         LISTS + PAIRS + SWEEP + """
 plain_order/specs/Order:before BeforeExactly
-plain_order/specs/Plain:inOrder `ListsInOrder` and `OneOrder`
-plain_order/specs/Plain:orderingOf RefusesInOrder
+plain_order/specs/Plain:in_order_lem `ListsInOrder` and `OneOrder`
+plain_order/specs/Plain:ordering_of RefusesInOrder
 """,
     ),
     (
@@ -165,24 +165,24 @@ batch/specs/Charts:need NeedsExactly
 batch/specs/Batch:Batches what is read
 """,
     ),
-    ("the steps of the sweep", "bentley_ottmann/specs/Swept:sweepOf,lentAfter", LISTS + TEST),
-    ("the steps of the new mode", "full_sweep/specs/Swept:sweepOf,lentAfter", LISTS + TEST),
+    ("the steps of the sweep", "bentley_ottmann/specs/Swept:sweep_of,lent_after", LISTS + TEST),
+    ("the steps of the new mode", "full_sweep/specs/Swept:sweep_of,lent_after", LISTS + TEST),
     (
         "the listing",
-        "listing/specs/Listing:listingAnswer,lentAfter units/specs/Demand:LowExactly,HighExactly,EqualWhenWhole decimals/specs/Demand:ReadsBack",
+        "listing/specs/Listing:listing_answer,lent_after units/specs/Demand:LowExactly,HighExactly,EqualWhenWhole decimals/specs/Demand:ReadsBack",
         LISTS
         + TEST
         + """
-chart_file/specs/Reading:readingOf ReadsExactly
-units/specs/Units:lowOf LowExactly
-units/specs/Units:highOf HighExactly
+chart_file/specs/Reading:reading_of ReadsExactly
+units/specs/Units:low_of LowExactly
+units/specs/Units:high_of HighExactly
 decimals/specs/Decimal:decimal ReadsBack
 """,
     ),
     (
         "the calls for C",
-        "c_records/specs/Numbers:turnNumber,orderNumber c_records/specs/Meetings:fieldsOf c_records/specs/Places:placedOf "
-        "c_records/specs/Sweeps:sweptFields c_records/specs/Checks:checkedAs",
+        "c_records/specs/Numbers:turn_number,order_number c_records/specs/Meetings:fields_of c_records/specs/Places:placed_of "
+        "c_records/specs/Sweeps:swept_fields c_records/specs/Checks:checked_as",
         "",
     ),
 ]
@@ -227,11 +227,11 @@ class Spec:
 
 def source_of(path):
     """The file of crates/ that a module is, `src:NAME` for a type that the code declares, none for the kit's."""
-    parts = re.fullmatch(r"Rattle·(\w+?)(?:·specs)?\.specs\.(.*)", path)
-    if not parts:
+    parts = re.fullmatch(r"Rattle\.(\w+)\.specs\.(.*)", path)
+    if not parts or not (ROOT / "crates" / parts[1]).is_dir():
         return None
     if parts[2].startswith("declared."):
-        words = [word for word in parts[2].split(".")[1:] if word != "the-variants"]
+        words = [word for word in parts[2].split(".")[1:] if word != "TheVariants"]
         return f"{parts[1]}/src:{words[-1]}"
     return f"{parts[1]}/specs/{parts[2].replace('.', '/')}"
 
@@ -298,8 +298,10 @@ def closure(roots, pinned):
                 todo.append((file, word))
             elif word in spec.uses and spec.uses[word] != (file, name):
                 todo.append(spec.uses[word])
-    for what in pinned.keys() - reached:
-        del pinned[what]
+    for file, name in pinned.keys() - reached:
+        if name not in SPECS[file].blocks:
+            raise SystemExit(f"believed: no {name} in crates/{file}")
+        del pinned[file, name]
     return read
 
 

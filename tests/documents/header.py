@@ -2,8 +2,8 @@
 
 The refusals are those of docs/CHART.md: the header's enum with what it says of each, the Rust wrapper's enum and sentences, and
 tools/formats.py have the same. The sizes are the header's: the wrapper, the tool, the comparison and docs/CHART.md have the
-same. The calls are those of crates/chart_c/src/lib.rt, the structs those of the crates below it: the header and the wrapper have
-them field by field."""
+same. The calls are those of crates/chart_c/src/lib.rt, which crates/chart_c_c gives C, the structs those of the crates below:
+the header and the wrapper have them field by field."""
 import pathlib
 import re
 import sys
@@ -149,7 +149,7 @@ def header_layout():
 def rust_layout(*sources):
     """The calls of Rust or Rattle text. A slice is a pointer and a length, whatever the length is called."""
     text = re.sub(r"//.*", "", "\n".join(sources))
-    bodies = dict(re.findall(r"#\[repr\(C\)\]\s*(?:pub )?struct (\w+) \{(.*?)\n\}", text, re.S))
+    bodies = dict(re.findall(r"#\[repr\(C\)\]\s*(?:#\[derive\([\w, ]+\)\]\s*)?(?:pub )?struct (\w+) \{(.*?)\n\}", text, re.S))
 
     def kind(word):
         if word not in bodies:
@@ -173,9 +173,10 @@ def rust_layout(*sources):
 
 def check_layout():
     due = header_layout()
-    proved = rust_layout(*map(text_of, (f"crates/{name}/src/lib.rt" for name in ("chart_c", "c_records", "charts", "open_chart"))))
-    wrapper = rust_layout(text_of("bindings/rust/src/calls.rs"))
-    for who, told in (("crates/chart_c/src/lib.rt", proved), ("the wrapper", wrapper)):
+    below = [text_of(f"crates/{name}/src/lib.rt") for name in ("c_records", "charts", "open_chart")]
+    proved = [f"crates/{name}/src/lib.rt" for name in ("chart_c", "chart_c_c")]
+    all_told = [(name, rust_layout(text_of(name), *below)) for name in proved]
+    for who, told in (*all_told, ("the wrapper", rust_layout(text_of("bindings/rust/src/calls.rs")))):
         same(f"{who}, calls", sorted(told), sorted(due))
         for name in told.keys() & due.keys():
             for (parameter, kind), (due_parameter, due_kind) in zip(told[name][0], due[name][0]):

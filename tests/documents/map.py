@@ -67,7 +67,7 @@ def about(crate, edit):
 
 def inner(left):
     """The table of the edits that are left."""
-    crates = re.findall(r"^(\w+):", (ROOT / "crates.txt").read_text(), re.M)
+    crates = re.findall(r"^(\w+)(?: staticlib)?:", (ROOT / "crates.txt").read_text(), re.M)
     yield "| crate | must-fail edit | what it is about |\n|---|---|---|\n"
     for crate, edit in sorted(left, key=lambda one: (crates.index(one[0]), one[1])):
         yield f"| {crate} | `{edit}` | {about(crate, edit)} |\n"

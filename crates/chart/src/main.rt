@@ -2,10 +2,11 @@
 // of the input past what decides it is read.
 #![tactic(auto)]
 
-use libc::STDIN_FILENO;
+// The descriptor that a program reads from.
+const STANDARD_INPUT: i32 = 0;
 
 fn main() {
     let mut file = [0u8; listing::DECIDING];
-    let size = io::read_full(STDIN_FILENO, &mut file);
+    let size = io::read_full(STANDARD_INPUT, &mut file);
     print_parts::print(&file[..size]);
 }

@@ -1,4 +1,4 @@
-// The library's calls under plain names, for C and Rust to link (include/mirtalughe.h).
+// The library's calls under plain names, as C and Rust link them from chart_c_c (include/mirtalughe.h).
 #![tactic(auto)]
 
 ghost use Rattle.std.specs.Prelude.{◌≡◌, length};
@@ -37,23 +37,14 @@ use open_chart::Changed;
 use orientation::Orientation;
 
 // Which way the three points turn, as its number.
-#[unsafe(no_mangle)]
-pub extern "C" fn mirtalughe_orient(x1: i16, y1: i16, x2: i16, y2: i16, x3: i16, y3: i16) -> i8
+pub fn mirtalughe_orient(x1: i16, y1: i16, x2: i16, y2: i16, x3: i16, y3: i16) -> i8
     ensures { result ≡ turn_number (turn_of (det x1 y1 x2 y2 x3 y3)) }
 {
     c_records::turn_number(orientation::orient(x1, y1, x2, y2, x3, y3))
 }
 
 // Which of the points x1/d1, y1/d1 and x2/d2, y2/d2 comes first, as its number.
-#[unsafe(no_mangle)]
-pub extern "C" fn mirtalughe_compare_points(
-    x1: i64,
-    y1: i64,
-    d1: u64,
-    x2: i64,
-    y2: i64,
-    d2: u64,
-) -> i8
+pub fn mirtalughe_compare_points(x1: i64, y1: i64, d1: u64, x2: i64, y2: i64, d2: u64) -> i8
     ensures { result ≡ order_number (point_order (point_of x1 y1 d1) (point_of x2 y2 d2)) }
 {
     let p = Point {
@@ -74,32 +65,28 @@ pub extern "C" fn mirtalughe_compare_points(
 }
 
 // Reads a chart file into a lent list.
-#[unsafe(no_mangle)]
-pub extern "C" fn mirtalughe_read(file: &[u8], list: &mut [i32]) -> Answer
+pub fn mirtalughe_read(file: &[u8], list: &mut [i32]) -> Answer
     ensures { Reads file.now list.old result list.new }
 {
     file_reader::read(file, list)
 }
 
 // Writes a chart's file into lent bytes.
-#[unsafe(no_mangle)]
-pub extern "C" fn mirtalughe_write(list: &[i32], file: &mut [u8]) -> Answer
+pub fn mirtalughe_write(list: &[i32], file: &mut [u8]) -> Answer
     ensures { Writes list.now file.old result file.new }
 {
     file_writer::write(list, file)
 }
 
 // Draws m times x folded at 0 and h, from x = 0 to s, into a lent list.
-#[unsafe(no_mangle)]
-pub extern "C" fn mirtalughe_fold(m: u32, h: u32, s: u32, list: &mut [i32]) -> Answer
+pub fn mirtalughe_fold(m: u32, h: u32, s: u32, list: &mut [i32]) -> Answer
     ensures { Draws m h s list.old result list.new }
 {
     line_drawing::draw(m as usize, h as usize, s as usize, list)
 }
 
 // How the two pieces of ten numbers meet, the first one asking.
-#[unsafe(no_mangle)]
-pub extern "C" fn mirtalughe_meeting(list: &[i32]) -> Met
+pub fn mirtalughe_meeting(list: &[i32]) -> Met
     ensures { result ≡ fields_of (meeting_of list.now) }
 {
     let answer = chart_verdict::meeting_of(list);
@@ -108,8 +95,7 @@ pub extern "C" fn mirtalughe_meeting(list: &[i32]) -> Met
 }
 
 // Where the two pieces of ten numbers meet.
-#[unsafe(no_mangle)]
-pub extern "C" fn mirtalughe_place(list: &[i32]) -> Placed
+pub fn mirtalughe_place(list: &[i32]) -> Placed
     ensures { result ≡ placed_of (place_answer_of list.now) }
 {
     let answer = nearest_place::pair_place(list);
@@ -118,24 +104,21 @@ pub extern "C" fn mirtalughe_place(list: &[i32]) -> Placed
 }
 
 // Every pair of a chart's pieces that meet, two bytes a pair.
-#[unsafe(no_mangle)]
-pub extern "C" fn mirtalughe_all_pairs(list: &[i32], pairs: &mut [u8]) -> Answer
+pub fn mirtalughe_all_pairs(list: &[i32], pairs: &mut [u8]) -> Answer
     ensures { (result ≡ all_pairs_of list.now (length pairs.old)) × (pairs.new ≡ lent_after list.now pairs.old) }
 {
     all_pairs::all_pairs(list, pairs)
 }
 
 // The pairs that meet of a chart without upright pieces, two bytes a pair, in the order of their first common points.
-#[unsafe(no_mangle)]
-pub extern "C" fn mirtalughe_plain_order(list: &[i32], pairs: &mut [u8]) -> Answer
+pub fn mirtalughe_plain_order(list: &[i32], pairs: &mut [u8]) -> Answer
     ensures { (result ≡ plain_of list.now (length pairs.old)) × (pairs.new ≡ ordered_after list.now pairs.old) }
 {
     order_pairs::plain_order(list, pairs)
 }
 
 // Sweeps a chart's pieces as the Rust does, at most `budget` steps.
-#[unsafe(no_mangle)]
-pub extern "C" fn mirtalughe_sweep(list: &[i32], budget: u32, pairs: &mut [u8]) -> SweptFields
+pub fn mirtalughe_sweep(list: &[i32], budget: u32, pairs: &mut [u8]) -> SweptFields
     ensures { (result ≡ swept_fields (sweep_of list.now budget (length pairs.old))) × (pairs.new ≡ swept_after list.now budget pairs.old) }
 {
     let swept = bentley_ottmann::sweep(list, budget, pairs);
@@ -144,8 +127,7 @@ pub extern "C" fn mirtalughe_sweep(list: &[i32], budget: u32, pairs: &mut [u8]) 
 }
 
 // Sweeps a chart's pieces in the new mode, at most `budget` steps: no pair is lost, with upright pieces or without.
-#[unsafe(no_mangle)]
-pub extern "C" fn mirtalughe_full_sweep(list: &[i32], budget: u32, pairs: &mut [u8]) -> SweptFields
+pub fn mirtalughe_full_sweep(list: &[i32], budget: u32, pairs: &mut [u8]) -> SweptFields
     ensures { (result ≡ swept_fields (full_sweep_of list.now budget (length pairs.old))) × (pairs.new ≡ full_after list.now budget pairs.old) }
 {
     let swept = full_sweep::sweep(list, budget, pairs);
@@ -154,8 +136,7 @@ pub extern "C" fn mirtalughe_full_sweep(list: &[i32], budget: u32, pairs: &mut [
 }
 
 // Sweeps each of several charts with the largest budget; their lists stand end to end.
-#[unsafe(no_mangle)]
-pub extern "C" fn mirtalughe_sweep_batch(
+pub fn mirtalughe_sweep_batch(
     list: &[i32],
     lengths: &[usize],
     pairs: &mut [u8],
@@ -167,16 +148,14 @@ pub extern "C" fn mirtalughe_sweep_batch(
 }
 
 // Whether a list of pairs names each meeting pair of a chart once, and if not, where it is wrong.
-#[unsafe(no_mangle)]
-pub extern "C" fn mirtalughe_check(list: &[i32], pairs: &[u8]) -> CheckedFields
+pub fn mirtalughe_check(list: &[i32], pairs: &[u8]) -> CheckedFields
     ensures { result ≡ checked_as (checked_of list.now pairs.now) }
 {
     c_records::checked_fields(supplied_check::check(list, pairs))
 }
 
 // Where the peak x, y lies to the region of an outline, two numbers a corner.
-#[unsafe(no_mangle)]
-pub extern "C" fn mirtalughe_region(outline: &[i32], x: i32, y: i32) -> Located
+pub fn mirtalughe_region(outline: &[i32], x: i32, y: i32) -> Located
     ensures { result ≡ located_of (region_answer_of outline.now x y) }
 {
     let answer = peak_in_region::locate(outline, x, y);
@@ -189,8 +168,7 @@ pub extern "C" fn mirtalughe_region(outline: &[i32], x: i32, y: i32) -> Located
 }
 
 // How the half-line from x, y through tx, ty meets the piece of five numbers.
-#[unsafe(no_mangle)]
-pub extern "C" fn mirtalughe_half_line(
+pub fn mirtalughe_half_line(
     kind: i32,
     x1: i32,
     y1: i32,
@@ -209,16 +187,14 @@ pub extern "C" fn mirtalughe_half_line(
 }
 
 // Makes an open chart without pieces.
-#[unsafe(no_mangle)]
-pub extern "C" fn mirtalughe_open_empty(chart: &mut [i32]) -> Answer
+pub fn mirtalughe_open_empty(chart: &mut [i32]) -> Answer
     ensures { (result ≡ emptying_of chart.old) × (chart.new ≡ after_emptying chart.old) }
 {
     open_changes::empty(chart)
 }
 
 // Adds a piece at the lowest free place of an open chart.
-#[unsafe(no_mangle)]
-pub extern "C" fn mirtalughe_open_add(
+pub fn mirtalughe_open_add(
     chart: &mut [i32],
     kind: i32,
     x1: i32,
@@ -232,24 +208,21 @@ pub extern "C" fn mirtalughe_open_add(
 }
 
 // Drops the piece of a number from an open chart.
-#[unsafe(no_mangle)]
-pub extern "C" fn mirtalughe_open_drop(chart: &mut [i32], piece: usize) -> Changed
+pub fn mirtalughe_open_drop(chart: &mut [i32], piece: usize) -> Changed
     ensures { (result ≡ changed_of (dropping chart.old piece)) × (chart.new ≡ after_dropping chart.old piece) }
 {
     open_changes::drop(chart, piece)
 }
 
 // How many places of an open chart are used.
-#[unsafe(no_mangle)]
-pub extern "C" fn mirtalughe_open_used(chart: &[i32]) -> Answer
+pub fn mirtalughe_open_used(chart: &[i32]) -> Answer
     ensures { result ≡ used_of chart.now }
 {
     open_pairs::used(chart)
 }
 
 // Every pair of an open chart's pieces that meet, under the numbers of their places.
-#[unsafe(no_mangle)]
-pub extern "C" fn mirtalughe_open_pairs(chart: &[i32], pairs: &mut [u8]) -> Answer
+pub fn mirtalughe_open_pairs(chart: &[i32], pairs: &mut [u8]) -> Answer
     ensures { (result ≡ open_pairs_of chart.now (length pairs.old)) × (pairs.new ≡ open_after chart.now pairs.old) }
 {
     open_pairs::all_pairs(chart, pairs)

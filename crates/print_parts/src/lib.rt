@@ -7,8 +7,10 @@ ghost use Rattle.listing_parts.specs.Demand.{ReadList};
 
 use bentley_ottmann::Swept;
 use charts::MOST;
-use libc::STDOUT_FILENO;
 use listing_parts::BYTES;
+
+// The descriptor that a program writes to.
+const STANDARD_OUTPUT: i32 = 1;
 
 // The bytes of the longest part. They go out with one write.
 const LONGEST: usize = 10 + 13 + BYTES / 2 * 47 + 17;
@@ -18,7 +20,7 @@ fn write_part(number: u8, list: &[i32], swept: Swept, pairs: &[u8], part: usize,
     requires { length (part_of number list.now swept pairs.now part) ≤ length text.old }
 {
     let end = part_text::put_part(number, list, swept, pairs, part, text);
-    io::write_all(STDOUT_FILENO, &text[..end]);
+    io::write_all(STANDARD_OUTPUT, &text[..end]);
 }
 
 // Sweeps a list that was read with this number, and writes its parts one after the other.

@@ -8,7 +8,8 @@ mod places;
 mod stops;
 mod text;
 
-use libc::STDIN_FILENO;
+// The descriptor that a program reads from.
+const STANDARD_INPUT: i32 = 0;
 
 fn answer(asked: u8, file: &[u8], list: &[i32]) {
     match asked {
@@ -40,7 +41,7 @@ fn size_of(low: u8, high: u8) -> usize {
 
 // Reads a file that fills `bytes`, replays it, and answers whether there was one.
 fn replay_full(asked: u8, bytes: &mut [u8]) -> bool {
-    let got = io::read_full(STDIN_FILENO, bytes);
+    let got = io::read_full(STANDARD_INPUT, bytes);
     if got < bytes.len() {
         return false;
     }
@@ -51,7 +52,7 @@ fn replay_full(asked: u8, bytes: &mut [u8]) -> bool {
 // Replays the next record, by way of `space`, and answers whether there was one.
 fn replay_next(space: &mut [u8]) -> bool {
     let mut head = [0u8; 3];
-    if io::read_full(STDIN_FILENO, &mut head) < 3 {
+    if io::read_full(STANDARD_INPUT, &mut head) < 3 {
         return false;
     }
     let size = size_of(head[1], head[2]);

@@ -1,14 +1,16 @@
 // Words and numbers on standard output.
 use fractions::Point;
-use libc::STDOUT_FILENO;
+
+// The descriptor that a program writes to.
+const STANDARD_OUTPUT: i32 = 1;
 
 pub fn words(bytes: &[u8]) {
-    io::write_all(STDOUT_FILENO, bytes);
+    io::write_all(STANDARD_OUTPUT, bytes);
 }
 
 pub fn number(before: &[u8], v: u64) {
     words(before);
-    io::print_decimal(STDOUT_FILENO, v);
+    io::print_decimal(STANDARD_OUTPUT, v);
 }
 
 pub fn signed(before: &[u8], v: i64) {
@@ -16,7 +18,7 @@ pub fn signed(before: &[u8], v: i64) {
     if v < 0 {
         words(b"-");
     }
-    io::print_decimal(STDOUT_FILENO, integers::size(v));
+    io::print_decimal(STANDARD_OUTPUT, integers::size(v));
 }
 
 // A point as X, Y, D.
@@ -39,7 +41,7 @@ pub fn yes_or_no(before: &[u8], yes: bool) {
 pub fn binary64(before: &[u8], v: f64) {
     words(before);
     if v == v {
-        io::print_hex(STDOUT_FILENO, f64::to_bits(v), 16);
+        io::print_hex(STANDARD_OUTPUT, f64::to_bits(v), 16);
     } else {
         words(b"nan");
     }
