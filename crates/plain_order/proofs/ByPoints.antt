@@ -1,6 +1,6 @@
 -- The order of pairs is that of their first common points, however these are written, and then of the numbers.
 -- Assumes nothing.
-use mathlib.Core.Path.{◌≡◌, refl, sym, ap, ◌∙◌}
+use mathlib.Core.Path.{◌≡◌, refl, ap, ◌∙◌}
 use mathlib.Core.Logic.{◌⊎◌, inl, inr, ⊎_elim}
 use mathlib.Core.Bool.{true, false}
 use Prim.Native.Nat.{ℕ, ◌<◌}
@@ -9,7 +9,7 @@ use borrow.Author.Tests.{ltb-true, ltb-false}
 use lib.Dec.{ltb}
 use lib.IntN.{pos}
 use Rattle.integers.proofs.Naturals.{pos-<}
-use Rattle.fractions.specs.Order.{order, turned, and_then}
+use Rattle.fractions.specs.Order.{turned, and_then}
 use Rattle.fractions.specs.Point.{point_order}
 use Rattle.fractions.specs.declared.Order.{Order}
 use Rattle.fractions.specs.declared.Order.TheVariants.{Less, Equal, Greater}

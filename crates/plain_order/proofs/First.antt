@@ -1,16 +1,12 @@
 -- The first common point of two pieces that meet is the least point of both with their ends added.
 -- Assumes nothing.
 use mathlib.Core.Path.{◌≡◌, refl, sym, ap, ◌∙◌}
-use mathlib.Core.Bool.{true}
-use mathlib.Core.List.{List}
 use Prim.Native.Nat.{ℕ, zero, suc, ◌<◌, ◌/◌}
 use native.Mathlib.Nat.{zero-div}
 use native.Mathlib.Omega.{arith}
-use lib.IntN.{ℤ, pos}
 use Rattle.fractions.specs.Order.{turned}
 use Rattle.fractions.specs.Point.{common, lowest_of, point_order}
-use Rattle.fractions.specs.declared.Order.{Order}
-use Rattle.fractions.specs.declared.Order.TheVariants.{Less, Equal, Greater}
+use Rattle.fractions.specs.declared.Order.TheVariants.{Equal}
 use Rattle.fractions.specs.declared.Point.{Point}
 use Rattle.fractions.proofs.Points.{point_turned, point_alike}
 use Rattle.fractions.proofs.Promises.{lowest_terms}
@@ -20,7 +16,7 @@ use Rattle.line_segment.specs.declared.Meeting.TheVariants.{Nothing, Crossing, O
 use Rattle.line_segment.specs.Piece.{HasLength, point_of, closed}
 use Rattle.line_segment.specs.Geometry.{Common}
 use Rattle.line_segment.specs.Segment.{intersect_of, cramer_of, crossing_of}
-use Rattle.line_segment.specs.Demand.{says_yes, CommonPart, OnlyPoint}
+use Rattle.line_segment.specs.Demand.{says_yes, OnlyPoint}
 use Rattle.line_segment.proofs.Promises.{says_yes_exactly, crossing_is_cramers, overlap_ends}
 use Rattle.line_segment.proofs.CramersPoint.{crossing_same}
 use Rattle.line_segment.proofs.Lying.{same_lies, same_side, lies_closed, closed_line, closed_from}

@@ -1,14 +1,11 @@
 -- The promises of specs/Demand, kept.
 -- Assumes nothing.
 use mathlib.Core.Path.{◌≡◌}
-use mathlib.Core.Bool.{true, false}
 use mathlib.Core.List.{List, map}
-use mathlib.Core.List.{Memᴰ as In}
 use Prim.Native.Nat.{ℕ}
 use lib.IntN.{ℤ}
 use Rattle.charts.specs.Chart.{verdict_of}
 use Rattle.charts.specs.declared.Verdict.TheVariants.{Accepted}
-use Rattle.naive.specs.Pairs.{Pair}
 use Rattle.naive.specs.AllPairs.{pairs_of}
 use Rattle.sweep.proofs.Sorting.{sort_in, sort_out, sort_sorted, sorted_same}
 use Rattle.plain_order.specs.Order.{before}
