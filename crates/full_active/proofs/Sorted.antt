@@ -52,7 +52,7 @@ back_out (x ∷ l) {i} m = ⊎_elim (λ (h : In i (backwards l)). there (back_ou
     own (here e) = here e
     own (there h) = elim h [ ]
 
-pub back_in : {l : List ℕ} {i : ℕ} → In i l → In i (backwards l)
+pub back_in : {i : ℕ} {l : List ℕ} → In i l → In i (backwards l)
 unfolding backwards
 back_in (here {xs = l} e) = Memᴰ.append_right (backwards l) (here e)
 back_in (there {x = x} {xs = l} m) = Memᴰ.append_left (x ∷ []) (back_in m)

@@ -144,6 +144,7 @@ adjacent_out (i ∷ l) m = let r = from_out i l m in (r.0, omega (arith, r.1), r
 module _ {A B : Type 0} (f : A → Option B) where
   somes_in : (l : List A) {q : A} {c : B} → In q l → f q ≡ some c → In c (somes (map f l))
   unfolding somes
+  somes_in [] m g = elim m [ ]
   somes_in (x ∷ l) {q} {c} (here e) g = rw (ap f (sym e) ∙ g, somes) (here refl)
   somes_in (x ∷ l) {q} {c} (there m) g = go (f x) refl (somes_in l m g)
     where
