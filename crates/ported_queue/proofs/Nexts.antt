@@ -1,8 +1,8 @@
 -- The next point by what stands at the two places: an end or none, a pair or none.
-use mathlib.Core.Path.{◌≡◌, refl, sym, ap, ap₂, ◌∙◌}
-use mathlib.Core.Bool.{Bool, true, false, cond}
-use mathlib.Core.List.{List, [], ◌∷◌}
-use Prim.Native.Nat.{ℕ, suc, ◌≤◌, ◌<◌}
+use mathlib.Core.Path.{◌≡◌, refl}
+use mathlib.Core.Bool.{Bool, true, false}
+use mathlib.Core.List.{List}
+use Prim.Native.Nat.{ℕ, ◌≤◌, ◌<◌}
 use lib.IntN.{ℤ}
 use lib.ListN.{length, get_or, drop, drop_of_length-le}
 use lib.Seq.{drop-cons}
@@ -12,9 +12,8 @@ use Rattle.sweep.specs.Ported.{is_less}
 use Rattle.ported_pieces.specs.Table.{chart_in}
 use Rattle.ported_arrays.specs.Numbers.{pair_of, end_of}
 use Rattle.ported_arrays.specs.Run.{next_by'}
-use Rattle.ported_queue.specs.declared.Next.{Next}
 use Rattle.ported_queue.specs.declared.Next.TheVariants.{Nothing, At}
-use Rattle.ported_queue.specs.Next.{as_next, next_by}
+use Rattle.ported_queue.specs.Next.{next_by}
 
 module _ (n : ℕ) (table : List ℤ) (ends waiting : List ℕ) (k h : ℕ) where
   pub neither : length ends ≤ k → length waiting ≤ h → Nothing ≡ next_by n table (drop k ends) (drop h waiting)
