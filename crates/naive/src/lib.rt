@@ -6,7 +6,7 @@ use charts::MOST;
 use line_segment::LineSegment;
 
 // The pieces of a chart, each read from the list once.
-#[derive(Drop)]
+#[derive(Clone, Copy)]
 pub struct Pieces {
     pub all: [LineSegment; MOST],
 }
