@@ -1,19 +1,17 @@
 -- A step examines at most twice as many pairs as can be adjacent: its pieces are distinct, and all of the chart.
-use mathlib.Core.Path.{◌≡◌, refl, ap, subst}
-use mathlib.Core.Logic.{◌≢◌}
-use mathlib.Core.List.{List, [], ◌∷◌, ◌++◌}
-use mathlib.Core.List.{Memᴰ as In}
+use mathlib.Core.Path.{◌≡◌, refl}
+use mathlib.Core.List.{List, ◌++◌}
 use mathlib.Core.Option.{Option, none, some}
-use Prim.Native.Nat.{ℕ, zero, suc, ◌+◌, ◌-◌, ◌*◌, ◌≤◌, ◌<◌}
+use Prim.Native.Nat.{ℕ, zero, suc, ◌+◌, ◌*◌, ◌≤◌, ◌<◌}
 use native.Mathlib.Omega.{arith}
 use native.Mathlib.Nat.{le_refl, suc-mul}
 use lib.ListN.{length, length-append, replicate, length-replicate}
 use Rattle.line_segment.specs.declared.LineSegment.{LineSegment}
 use Rattle.line_segment.specs.Piece.{HasLength}
 use Rattle.charts.specs.Chart.{most}
-use Rattle.sweep.specs.Lists.{upto, sort, adjacent, Pairwise}
+use Rattle.sweep.specs.Lists.{upto, sort}
 use Rattle.sweep.specs.Chart.{Chart}
-use Rattle.sweep.specs.State.{State, start}
+use Rattle.sweep.specs.State.{State}
 use Rattle.sweep.specs.Queue.{next}
 use Rattle.sweep.specs.Step.{stay, enter, ranged, step}
 use Rattle.sweep.specs.Run.{move_to, move, onwards, run}
