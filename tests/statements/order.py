@@ -92,23 +92,23 @@ def try_orders(f, points, say):
     for p in points:
         here = [i for i in range(f.n) if f.under(p, i)]
         for i in here:
-            say("before-irr", not f.before(p, i, i))
-            say("aside-on", (f.aside(p, i) == 0) == f.piece[i].on(p))
+            say("before_irr", not f.before(p, i, i))
+            say("aside_on", (f.aside(p, i) == 0) == f.piece[i].on(p))
         for i, j in permutations(here, 2):
-            say("before-total", f.before(p, i, j) or f.before(p, j, i))
+            say("before_total", f.before(p, i, j) or f.before(p, j, i))
             if f.piece[i].on(p) and f.piece[j].on(p):
-                say("on-rises", f.before(p, i, j) == (f.through(i, j) < 0))
+                say("on_rises", f.before(p, i, j) == (f.through(i, j) < 0))
             if f.aside(p, i) > 0 and f.piece[j].on(p):
-                say("below-first", f.before(p, i, j))
+                say("below_first", f.before(p, i, j))
             if f.piece[i].on(p) and f.aside(p, j) < 0:
-                say("above-last", f.before(p, i, j))
+                say("above_last", f.before(p, i, j))
             kind, c = f.chart.test(i, j)
             if kind == "crossing" and p < c and f.before(p, i, j):
                 a, b = f.piece[i], f.piece[j]
-                say("ahead-steeper", a.rise * b.run > b.rise * a.run)
+                say("ahead_steeper", a.rise * b.run > b.rise * a.run)
         for i, j, k in permutations(here, 3):
             if f.before(p, i, j) and f.before(p, j, k):
-                say("before-trans", f.before(p, i, k))
+                say("before_trans", f.before(p, i, k))
 
 
 def try_between(f, l, p, say):
@@ -116,7 +116,7 @@ def try_between(f, l, p, say):
     for i, j in permutations(here, 2):
         a, b = f.aside(p, i), f.aside(p, j)
         if f.before(l, i, j) and p <= f.piece[i].max and p <= f.piece[j].max and not f.between(l, p, i, j):
-            say("below-stays, above-stays", a >= b)
+            say("below_stays, above_stays", a >= b)
             if f.under(p, i) and f.under(p, j) and not a == 0 == b:
                 say("persists", f.before(p, i, j))
     for i, k, j in permutations(here, 3):

@@ -70,15 +70,15 @@ def try_sweep(chart, fail):
         if set(run.queue) != queue | {chart.test(*q)[1] for q in run.waiting}:
             fail("queue")
         if (not run.queue) != (steps >= len(points)):
-            fail("ends-exactly")
+            fail("ends_exactly")
         if not run.queue or steps > len(points):
             break
         want, steps = want + sought(chart, points[steps:steps + 1]), steps + 1
         run.step()
     if steps > 2 * chart.n + len(meeting):
-        fail("steps-bounded")
+        fail("steps_bounded")
     if set(run.listed) != set(meeting):
-        fail("lists-all")
+        fail("lists_all")
     if run.listed_by_examining:
         fail("examining lists nothing")
     return steps
@@ -94,14 +94,14 @@ def try_geometry(chart, fail):
         if kind == "crossing" and (common != [c] or aligned(s[i], s[j])):
             fail("crossing-on, crossing-only, crossing-not-aligned")
         if kind == "overlap" and common[0] != c:
-            fail("overlap-on")
+            fail("overlap_on")
         if kind != "crossing" and not aligned(s[i], s[j]) and any(s[i].contains(p) and s[j].contains(p) for p in common):
-            fail("contains-crosses")
+            fail("contains_crosses")
     for p in points:
         through = [i for i in numbers if s[i].on(p)]
         for i, j, k in permutations(through, 3):
             if aligned(s[i], s[j]) and aligned(s[j], s[k]) and not aligned(s[i], s[k]):
-                fail("aligned-trans")
+                fail("aligned_trans")
         under = [i for i in numbers if s[i].min <= p < s[i].max]
         for c in (c for c in points if p < c):
             reach = [i for i in under if c < s[i].max]
