@@ -34,7 +34,7 @@ fn is_fresh(table: &[i16], p: Spot, i: u8, j: u8) -> bool
 // The pair of two pieces, the lesser number first; where the list ends now.
 pub fn list_pair(i: u8, j: u8, bytes: &mut [u8], end: usize) -> usize
     requires { end + 2 ≤ length bytes.old }
-    ensures { Listed (lesser-first i j ∷ []) bytes.old end bytes.new result }
+    ensures { Listed (lesser_first i j ∷ []) bytes.old end bytes.new result }
 {
     let mut a = j;
     let mut b = i;

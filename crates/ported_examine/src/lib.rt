@@ -34,7 +34,7 @@ fn examine_crossing(
     end: usize,
 ) -> Places
     requires { (head ≤ length waiting.old) × (length waiting.old ≤ 65536) }
-    ensures { Examined (λ n. examine-free (chart_in n table.now) p crosses (i, j))
+    ensures { Examined (λ n. examine_free (chart_in n table.now) p crosses (i, j))
         marks.old waiting.old head bytes.old end marks.new waiting.new bytes.new result }
 {
     if ported_pieces::crossing_beyond(table, p, i, j) {
@@ -62,7 +62,7 @@ fn examine_free(
     end: usize,
 ) -> Places
     requires { (head ≤ length waiting.old) × (length waiting.old ≤ 65536) }
-    ensures { Examined (λ n. examine-free (chart_in n table.now) p (kind (chart_in n table.now) (i, j)) (i, j))
+    ensures { Examined (λ n. examine_free (chart_in n table.now) p (kind (chart_in n table.now) (i, j)) (i, j))
         marks.old waiting.old head bytes.old end marks.new waiting.new bytes.new result }
 {
     match ported_pieces::test(table, i, j) {
@@ -110,7 +110,7 @@ fn examine_two(
     end: usize,
 ) -> Places
     requires { (head ≤ length waiting.old) × (length waiting.old ≤ 65536) }
-    ensures { Examined (λ n. examine (chart_in n table.now) p (lesser-first a b))
+    ensures { Examined (λ n. examine (chart_in n table.now) p (lesser_first a b))
         marks.old waiting.old head bytes.old end marks.new waiting.new bytes.new result }
 {
     if a < b {

@@ -14,7 +14,7 @@ use fractions::Point;
 
 // The end that stands at k is at p.
 fn is_end_at(table: &[i16], ends: &[u16], k: usize, p: Point) -> bool
-    ensures { (n : ℕ) → result ≡ stands_at (end-at (chart_in n table.now) p) ends.now k }
+    ensures { (n : ℕ) → result ≡ stands_at (end_at (chart_in n table.now) p) ends.now k }
 {
     if ends.len() <= k {
         return false;
@@ -23,7 +23,7 @@ fn is_end_at(table: &[i16], ends: &[u16], k: usize, p: Point) -> bool
 }
 
 fn is_crossing_at(table: &[i16], waiting: &[u16], k: usize, p: Point) -> bool
-    ensures { (n : ℕ) → result ≡ stands_at (crossing-at (chart_in n table.now) p) waiting.now k }
+    ensures { (n : ℕ) → result ≡ stands_at (crossing_at (chart_in n table.now) p) waiting.now k }
 {
     if waiting.len() <= k {
         return false;
@@ -52,7 +52,7 @@ fn free_mark(marks: &mut [u8], c: usize)
 
 // An end flagged by its piece: a min as starting, a max as finishing.
 fn flag_end(e: u16, starting: &mut [u8], finishing: &mut [u8])
-    ensures { (starting.new ≡ flag (halves (keep is-min (e ∷ []))) starting.old) × (finishing.new ≡ flag (halves (keep (λ f. not (is-min f)) (e ∷ []))) finishing.old) }
+    ensures { (starting.new ≡ flag (halves (keep is_min (e ∷ []))) starting.old) × (finishing.new ≡ flag (halves (keep (λ f. not (is_min f)) (e ∷ []))) finishing.old) }
 {
     let i = (e / 2) as usize;
     if e % 2 == 0 {

@@ -53,7 +53,7 @@ pub fn tally(examined: u64, stay: usize, live: usize) -> u64
 
 // Whether the queue is empty.
 pub fn is_empty(table: &[i16], ends: &[u16], passed: usize, waiting: &[u16], head: usize) -> bool
-    ensures { (n : ℕ) → result ≡ is_none (chart_in n table.now) (next-by (chart_in n table.now) (drop passed ends.now) (drop head waiting.now)) }
+    ensures { (n : ℕ) → result ≡ is_none (chart_in n table.now) (next_by' (chart_in n table.now) (drop passed ends.now) (drop head waiting.now)) }
 {
     match ported_queue::next_point(table, ends, passed, waiting, head) {
         Next::Nothing => true,
