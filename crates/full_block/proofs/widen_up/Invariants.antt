@@ -1,0 +1,12 @@
+use Prim.Native.Nat.{◌-◌, ◌≤◌}
+use Rattle.fractions.specs.declared.Point.{Point}
+use Rattle.full_points.specs.Spot.{Marks}
+use Rattle.full_active.specs.Parts.{through_in}
+use Rattle.full_active.proofs.Places.{All}
+use Rattle.full_block.proofs.widen_up.Given as goal
+
+abbrev pub invariant-loop-k : goal.invariant-loop-k
+invariant-loop-k l = (l.from ≤ l.k) × (l.k ≤ l.live) × ((q : Point) → Marks l.p q → All (through_in l.table q) l.active l.from l.k)
+
+abbrev pub decreases-loop-k : goal.decreases-loop-k
+decreases-loop-k l = l.live - l.k
