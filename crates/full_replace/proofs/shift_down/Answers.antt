@@ -1,6 +1,5 @@
 -- `full_replace::shift_down` meets its contract: the members passed stand where they go, and those behind where they were.
 use mathlib.Core.Path.{◌≡◌, refl}
-use Prim.Native.Nat.{◌-◌}
 use native.Mathlib.Omega.{arith}
 use lib.ListN.{length-set}
 use Rattle.full_active.proofs.Shifting.{down_start, down_step}

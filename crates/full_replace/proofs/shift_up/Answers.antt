@@ -1,6 +1,5 @@
 -- `full_replace::shift_up` meets its contract: the members from k on stand where they go, and those in front where they were.
 use mathlib.Core.Path.{◌≡◌, refl, ◌∙◌}
-use Prim.Native.Nat.{◌-◌}
 use native.Mathlib.Omega.{arith}
 use lib.ListN.{length-set}
 use Rattle.full_active.proofs.Shifting.{up_start, up_step, up_end}
