@@ -1,19 +1,17 @@
 -- What a report of one pair comes to, by its mark and by how its pieces meet, and a pass over rows of pairs.
-use mathlib.Core.Path.{◌≡◌, refl, sym, ap, ◌∙◌}
+use mathlib.Core.Path.{◌≡◌, refl, sym}
 use mathlib.Core.Bool.{Bool, true, false, cond, not, ◌&&◌}
 use mathlib.Core.List.{List, [], ◌∷◌, ◌++◌, map}
-use Prim.Native.Nat.{ℕ, suc, ◌+◌, ◌-◌, ◌≤◌, ◌<◌}
+use Prim.Native.Nat.{ℕ, suc, ◌+◌, ◌≤◌, ◌<◌}
 use native.Mathlib.Numerals.{add-one}
 use lib.Dec.{eqb}
-use lib.ListN.{length, get_or, set, drop, drop_of_length-le}
+use lib.ListN.{length, get_or, drop, drop_of_length-le}
 use lib.Seq.{drop-cons}
 use borrow.Author.Tests.{eq-eqb, ne_eqb}
-use Rattle.sweep.specs.Lists.{Pair, place, pairs}
-use Rattle.sweep.specs.Chart.{Kind, nothing, crosses, overlaps, Chart, meets, kind}
+use Rattle.sweep.specs.Lists.{Pair, pairs}
+use Rattle.sweep.specs.Chart.{nothing, Chart, meets, kind}
 use Rattle.sweep.specs.Step.{each}
-use Rattle.ported_arrays.specs.Numbers.{cell, crossing_before}
-use Rattle.ported_arrays.specs.Ledger.{Ledger, mark, list, wait, report}
-use Rattle.ported_ledger.specs.Views.{book, ledger}
+use Rattle.ported_arrays.specs.Ledger.{Ledger, mark, list, report}
 
 pub each_append : {S : Type 0} (f : Pair → S → S) (l m : List Pair) (s : S) → each f (l ++ m) s ≡ each f m (each f l s)
 unfolding each
