@@ -1,5 +1,5 @@
 use mathlib.Core.Path.{◌≡◌}
-use Prim.Native.Nat.{◌≤◌, ◌-◌, ◌+◌, ◌*◌}
+use Prim.Native.Nat.{◌≤◌, ◌+◌, ◌*◌}
 use lib.ListN.{length}
 use lib.Seq.{sets}
 use Rattle.naive.specs.Pairs.{row, rows, bytes}
@@ -9,11 +9,5 @@ use Rattle.all_pairs.proofs.list_pairs.Given as goal
 abbrev pub invariant-loop-b : goal.invariant-loop-b
 invariant-loop-b l = (l.b ≤ l.a) × (l.k ≡ l.initial.k + length (row (meets_in l.all) l.a l.b)) × (l.pairs ≡ sets l.initial.pairs (2 * l.initial.k) (bytes (row (meets_in l.all) l.a l.b)))
 
-abbrev pub decreases-loop-b : goal.decreases-loop-b
-decreases-loop-b l = l.a - l.b
-
 abbrev pub invariant-loop-a : goal.invariant-loop-a
 invariant-loop-a l = (l.a ≤ l.n) × (l.k ≡ length (rows (meets_in l.all) l.a)) × (l.pairs ≡ sets l.initial.pairs 0 (bytes (rows (meets_in l.all) l.a)))
-
-abbrev pub decreases-loop-a : goal.decreases-loop-a
-decreases-loop-a l = l.n - l.a

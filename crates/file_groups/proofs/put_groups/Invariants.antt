@@ -1,5 +1,5 @@
 use mathlib.Core.Path.{◌≡◌}
-use Prim.Native.Nat.{◌+◌, ◌-◌, ◌≤◌}
+use Prim.Native.Nat.{◌+◌, ◌≤◌}
 use lib.ListN.{length}
 use Rattle.chart_file.specs.Groups.{spelled}
 use Rattle.chart_file.specs.Format.{groups}
@@ -8,6 +8,3 @@ use Rattle.file_groups.proofs.put_groups.Given as goal
 
 abbrev pub invariant-loop-i : goal.invariant-loop-i
 invariant-loop-i l = (l.i ≤ l.last) × (l.last + 1 ≡ l.at + length (spelled groups l.v)) × Left groups l.v l.at l.initial.out l.i l.rest l.out
-
-abbrev pub decreases-loop-i : goal.decreases-loop-i
-decreases-loop-i l = l.last - l.i

@@ -1,5 +1,5 @@
 use mathlib.Core.Path.{◌≡◌}
-use Prim.Native.Nat.{◌+◌, ◌*◌, ◌-◌, ◌≤◌}
+use Prim.Native.Nat.{◌+◌, ◌*◌, ◌≤◌}
 use lib.ListN.{length, take}
 use Rattle.charts.specs.Chart.{most}
 use Rattle.chart_file.specs.Reading.{due, numbers, pieces}
@@ -8,11 +8,5 @@ use Rattle.file_reader.proofs.pieces.Given as goal
 abbrev pub invariant-loop-c : goal.invariant-loop-c
 invariant-loop-c l = (1 ≤ l.c) × (l.c ≤ 5) × (l.fault ≡ 0) × (length l.list ≡ 5 * most) × (numbers l.file l.c (pieces l.file l.next l.p) ≡ due (take (5 * l.p + l.c) l.list) l.at)
 
-abbrev pub decreases-loop-c : goal.decreases-loop-c
-decreases-loop-c l = 5 - l.c
-
 abbrev pub invariant-file : goal.invariant-file
 invariant-file l = (l.p ≤ l.count) × (l.fault ≡ 0) × (length l.list ≡ 5 * most) × (pieces l.file l.next l.p ≡ due (take (5 * l.p) l.list) l.at)
-
-abbrev pub decreases-file : goal.decreases-file
-decreases-file l = l.count - l.p

@@ -1,5 +1,5 @@
 use mathlib.Core.Path.{◌≡◌}
-use Prim.Native.Nat.{◌*◌, ◌-◌, ◌/◌, ◌≤◌}
+use Prim.Native.Nat.{◌*◌, ◌/◌, ◌≤◌}
 use lib.ListN.{length, drop}
 use Rattle.decimals.specs.Text.{text as text_of, put}
 use Rattle.listing_lines.specs.Lines.{pairs_in, pair_lines}
@@ -7,6 +7,3 @@ use Rattle.pair_lines.proofs.put_pairs.Given as goal
 
 abbrev pub invariant-loop-k : goal.invariant-loop-k
 invariant-loop-k l = (l.k ≤ length l.pairs / 2) × (length l.text ≡ length l.initial.text) × (put (pair_lines l.list (pairs_in (drop (2 * l.k) l.pairs))) (text_of l.text l.next) ≡ put (pair_lines l.list (pairs_in l.pairs)) (text_of l.initial.text l.end))
-
-abbrev pub decreases-loop-k : goal.decreases-loop-k
-decreases-loop-k l = length l.pairs / 2 - l.k
