@@ -1,5 +1,5 @@
 -- What holds of the arrays while a run goes on: they are the sheet after so many steps.
-use mathlib.Core.Path.{◌≡◌, refl, sym, ap, ap₂, ◌∙◌, subst}
+use mathlib.Core.Path.{◌≡◌, refl, sym, ap, ◌∙◌, subst}
 use mathlib.Core.Bool.{Bool, true, false, cond}
 use mathlib.Core.List.Memᴰ
 use mathlib.Core.List.{List, []}
@@ -12,12 +12,9 @@ use native.Mathlib.Omega.{arith}
 use borrow.Author.Tests.{ne_eqb}
 use lib.Dec.{eqb}
 use lib.IntN.{ℤ}
-use lib.ListN.{length, take, drop, drop_of_length-le}
+use lib.ListN.{length, drop, drop_of_length-le}
 use Rattle.fractions.specs.declared.Point.{Point}
-use Rattle.line_segment.specs.Piece.{HasLength}
 use Rattle.charts.specs.Chart.{most}
-use Rattle.charts.specs.Answer.{room}
-use Rattle.sweep.specs.Lists.{Pair}
 use Rattle.sweep.specs.Chart.{Chart}
 use Rattle.sweep.specs.State.{start as begin}
 use Rattle.sweep.specs.Run.{is_none}
