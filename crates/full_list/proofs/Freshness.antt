@@ -6,7 +6,7 @@ use Prim.Native.Nat.{ℕ}
 use lib.IntN.{ℤ}
 use Rattle.fractions.specs.declared.Point.{Point}
 use Rattle.line_segment.specs.declared.Meeting.{Meeting}
-use Rattle.line_segment.specs.declared.Meeting.TheVariants.{Nothing, Crossing, Overlap}
+use Rattle.line_segment.specs.declared.Meeting.TheVariants.{Nothing, Crossing}
 use Rattle.line_segment.specs.Piece.{point_of}
 use Rattle.line_segment.specs.Segment.{intersect_of}
 use Rattle.sweep.specs.Chart.{same}
