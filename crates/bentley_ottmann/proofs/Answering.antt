@@ -5,7 +5,7 @@ use mathlib.Core.List.{List, [], ◌∷◌, ◌++◌}
 use Prim.Native.Nat.{ℕ, zero, suc, ◌*◌, ◌/◌, ◌≤◌, ◌<◌}
 use native.Mathlib.Omega.{arith}
 use lib.IntN.{ℤ, pos}
-use lib.ListN.{length, drop, replicate, length-replicate}
+use lib.ListN.{length, replicate, length-replicate}
 use Rattle.line_segment.specs.declared.LineSegment.{LineSegment}
 use Rattle.line_segment.specs.Piece.{HasLength}
 use Rattle.charts.specs.Chart.{most, verdict_of}
@@ -23,8 +23,7 @@ use Rattle.sweep.specs.State.{start as begin}
 use Rattle.sweep.specs.Queue.{next as next_of}
 use Rattle.sweep.specs.Run.{is_none, run, answer_of, answer}
 use Rattle.sweep.specs.Run.{onwards as going}
-use Rattle.ported_arrays.specs.Event.{Sheet}
-use Rattle.ported_arrays.specs.Run.{next, onwards, start}
+use Rattle.ported_arrays.specs.Run.{onwards, start}
 use Rattle.ported_arrays.specs.Agreement.{Agrees}
 use Rattle.ported_arrays.proofs.Flat.{flat_length}
 use Rattle.ported_arrays.proofs.Nexts.{next_agrees}
