@@ -10,8 +10,8 @@ use mir.Syntax.{w64}
 use mir.Val.{SFits, of_z, to_z}
 use mir.Facts.{to_z-of_z}
 use Rattle.batch.specs.Numbers.{word}
-use Rattle.batch_result.proofs.word_of.Statement.{statement}
-use Rattle.batch_result.proofs.word_of.Tie as tie
+use Rattle.batch_result.proofs.word_of.Goals as goal
+use Rattle.batch_result.proofs.word_of.Goals.{Else-v-lt0, Then-v-lt0}
 
 -- a number as it comes back from its bits
 abbrev kept : ℤ → ℤ
@@ -37,30 +37,26 @@ above v f e = go v f (rw (to_z-of_z f) at e)
     go (pos n) f e = (n, f.sfits, to_z-of_z f, refl)
     go (negsuc n) f e = let z : ◌≡◌ {A = ℕ} 0 1 = cc in absurd (omega arith)
 
-minus : (c : tie.Then1) → (n : ℕ) × (n < 2 ^ 63) × (negsuc 0 -ℤ kept c.before.args.v ≡ pos n) × (kept (negsuc 0 -ℤ kept c.before.args.v) ≡ pos n) × (18446744073709551615 - n ≡ word c.before.args.v)
-minus c = below c.before.args.v c.before.ranges.v c.if1.true
+minus : (c : Then-v-lt0) → (n : ℕ) × (n < 2 ^ 63) × (negsuc 0 -ℤ kept c.args.v ≡ pos n) × (kept (negsuc 0 -ℤ kept c.args.v) ≡ pos n) × (18446744073709551615 - n ≡ word c.args.v)
+minus c = below c.args.v c.ranges.v c.if-v-lt0.true
 
-plus : (c : tie.Else1) → (n : ℕ) × (n < 2 ^ 63) × (kept c.before.args.v ≡ pos n) × (n ≡ word c.before.args.v)
-plus c = above c.before.args.v c.before.ranges.v c.if1.false
+plus : (c : Else-v-lt0) → (n : ℕ) × (n < 2 ^ 63) × (kept c.args.v ≡ pos n) × (n ≡ word c.args.v)
+plus c = above c.args.v c.ranges.v c.if-v-lt0.false
 
-sub-result : tie.Need-overflow-sub-result
-sub-result c = let m = minus c in rw m.2 (record { sfits = m.1 })
+pub overflow_sub-result : goal.overflow_sub-result
+overflow_sub-result c = let m = minus c in rw m.2 (record { sfits = m.1 })
 
-cast-result : tie.Need-overflow-cast-result
-cast-result c = let m = minus c in rw m.3 (tt, record { fits = omega (arith, m.1) })
+pub overflow_cast-result : goal.overflow_cast-result
+overflow_cast-result c = let m = minus c in rw m.3 (tt, record { fits = omega (arith, m.1) })
 
-sub-result-2 : tie.Need-overflow-sub-result-2
-sub-result-2 c = let m = minus c in rw m.3 (omega (arith, m.1))
+pub overflow_sub-result-then-v-lt0 : goal.overflow_sub-result-then-v-lt0
+overflow_sub-result-then-v-lt0 c = let m = minus c in rw m.3 (omega (arith, m.1))
 
-returns : tie.Need-returns
-returns c = let m = minus c in rw m.3 m.4
+pub returns-then-v-lt0 : goal.returns-then-v-lt0
+returns-then-v-lt0 c = let m = minus c in rw m.3 m.4
 
-cast-result-2 : tie.Need-overflow-cast-result-2
-cast-result-2 c = let m = plus c in rw m.2 (tt, record { fits = omega (arith, m.1) })
+pub overflow_cast-result-2 : goal.overflow_cast-result-2
+overflow_cast-result-2 c = let m = plus c in rw m.2 (tt, record { fits = omega (arith, m.1) })
 
-returns-2 : tie.Need-returns-2
-returns-2 c = let m = plus c in rw m.2 m.3
-
-pub word_of_spec : {M : Type 1} → statement M
-word_of_spec =
-    tie.close (tie.spec sub-result cast-result sub-result-2 returns cast-result-2 returns-2)
+pub returns : goal.returns
+returns c = let m = plus c in rw m.2 m.3
