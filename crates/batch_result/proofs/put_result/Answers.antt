@@ -6,7 +6,7 @@ use Rattle.batch.proofs.Stores.{first_six}
 use Rattle.batch_result.proofs.put_result.Goals as goal
 
 pub shape_of-res : goal.shape_of-res
-shape_of-res c = c.put_last.auto.res.0 ∙ simp length-set
+shape_of-res c = c.put_last.auto.res ∙ simp length-set
 
 pub returns : goal.returns
 unfolding numbers_of
