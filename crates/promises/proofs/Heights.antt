@@ -1,6 +1,6 @@
 -- Heights are bounded: between its ends a piece's height is a mean of theirs, weighed by two parts of run times D.
 -- Assumes nothing.
-use mathlib.Core.Path.{◌≡◌, sym, ap, ◌∙◌}
+use mathlib.Core.Path.{◌≡◌, ap, ◌∙◌}
 use mathlib.Core.Logic.{⊎_elim}
 use mathlib.Core.Bool.{true, false}
 use mathlib.Core.List.{[], ◌∷◌}
@@ -17,7 +17,7 @@ use Rattle.line_segment.specs.Geometry.{run}
 use Rattle.charts.specs.Piece.{is_upright}
 use Rattle.sweep.specs.Ported.{height_above, height_below}
 use Rattle.sweep.proofs.Tests.{ask}
-use Rattle.promises.specs.Heights.{FitsHeight, HeightsBounded}
+use Rattle.promises.specs.Heights.{HeightsBounded}
 
 left_over : (a b : ℤ) → a ≤ℤ b → pos 0 ≤ℤ (b -ℤ a)
 left_over a b h = rw (none a) at (+_mono-≤ a b (neg_ℤ a) h)

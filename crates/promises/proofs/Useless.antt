@@ -1,13 +1,13 @@
 -- The useless programs are shut out: by the empty chart, by one piece, and by the scope's first example.
 -- Assumes nothing.
 use mathlib.Core.Path.{◌≡◌, refl, sym, ap, ◌∙◌, subst}
-use mathlib.Core.Logic.{◌⊎◌, ⊎_elim}
+use mathlib.Core.Logic.{⊎_elim}
 use mathlib.Core.Bool.{true, cond}
 use mathlib.Core.List.{List, [], ◌∷◌}
 use mathlib.Core.List.Memᴰ.{head as here}
 use mathlib.Core.List.Memᴰ.{tail as there}
 use mathlib.Core.List.{Memᴰ as In}
-use Prim.Native.Nat.{ℕ, zero, suc, ◌*◌, ◌≤◌, ◌<◌, min}
+use Prim.Native.Nat.{ℕ, ◌*◌, ◌≤◌}
 use native.Mathlib.Omega.{arith}
 use lib.Dec.{eqb}
 use lib.IntN.{ℤ, pos}
@@ -15,8 +15,6 @@ use lib.ListN.{length, take}
 use Rattle.fractions.specs.Order.{order}
 use Rattle.fractions.specs.Fraction.{ratio_order}
 use Rattle.fractions.specs.Point.{point_order, whole_of}
-use Rattle.fractions.specs.declared.Order.{Order}
-use Rattle.fractions.specs.declared.Order.TheVariants.{Less, Equal}
 use Rattle.fractions.specs.declared.Point.{Point}
 use Rattle.fractions.proofs.Promises.{orders_points}
 use Rattle.line_segment.specs.Piece.{point_of, end_order, first_included, second_included, join_by, join_of, piece_of}
@@ -26,9 +24,7 @@ use Rattle.charts.specs.Fault.{outside, off_range, eq_z, same_ends, fault_of}
 use Rattle.charts.specs.Chart.{number_at, fault_at, pieces, verdict_of}
 use Rattle.charts.specs.Piece.{kind_of, coordinate_of, piece_at, is_upright, no_upright}
 use Rattle.charts.specs.Answer.{answer_of, room, listing_of}
-use Rattle.charts.specs.Demand.{ListingDue}
 use Rattle.charts.specs.PairList.{pairs_in}
-use Rattle.charts.specs.declared.Answer.{Answer}
 use Rattle.charts.specs.declared.Verdict.{Verdict}
 use Rattle.charts.specs.declared.Verdict.TheVariants.{Accepted, Refused}
 use Rattle.charts.proofs.Accepted.{pieces_have_length}
@@ -36,9 +32,9 @@ use Rattle.charts.proofs.Listing.{listing_refuses_exactly, listing_goes}
 use Rattle.sweep.specs.Lists.{Pair}
 use Rattle.bentley_ottmann.specs.declared.Swept.{Swept}
 use Rattle.bentley_ottmann.specs.Swept.{refused_with, sweep_of, lent_after}
-use Rattle.promises.specs.Chart.{Accepts, NoneUpright, AllPoints, EndOrCrossing, a_min, a_max, a_crossing}
+use Rattle.promises.specs.Chart.{NoneUpright, AllPoints, EndOrCrossing, a_min, a_max, a_crossing}
 use Rattle.promises.specs.AllPairs as pairs
-use Rattle.promises.specs.Sweep.{Ported, Visits, Refusals, CountsSteps, VisitsInOrder}
+use Rattle.promises.specs.Sweep.{Ported, Refusals, CountsSteps, VisitsInOrder}
 use Rattle.promises.specs.Useless.{RefusesAll, ListsNothing, IdlesAfterOne, inventing, InventsSteps, ShutOut}
 use Rattle.promises.proofs.Geometry.{none_upright}
 use Rattle.promises.proofs.Ported.{ported_promises}

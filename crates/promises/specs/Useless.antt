@@ -1,9 +1,8 @@
 -- The scope's four useless programs, each as the outcomes that it has, and which promise shuts it out.
-use Rattle.std.specs.Prelude.{◌≡◌, cond, List, ℕ, min, eqb, ℤ, length}
-use Rattle.charts.specs.declared.Answer.{Answer}
+use Rattle.std.specs.Prelude.{◌≡◌, cond, ℕ, min, eqb, length}
 use Rattle.charts.specs.Answer.{answer_of, listing_of}
 use Rattle.bentley_ottmann.specs.declared.Swept.{Swept}
-use Rattle.bentley_ottmann.specs.Swept.{refused_with, sweep_of}
+use Rattle.bentley_ottmann.specs.Swept.{refused_with}
 use Rattle.promises.specs.Chart.{NoneUpright}
 use Rattle.promises.specs.AllPairs as pairs
 use Rattle.promises.specs.Sweep.{Outcome, Ported, Refusals, CountsSteps, VisitsInOrder}
