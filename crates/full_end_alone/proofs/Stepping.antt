@@ -6,7 +6,6 @@ use mathlib.Core.List.Memᴰ.{head as here}
 use mathlib.Core.List.{Memᴰ as In}
 use Prim.Native.Nat.{ℕ, suc, ◌+◌, ◌-◌, ◌≤◌, ◌<◌}
 use native.Mathlib.Omega.{arith}
-use native.Mathlib.Numerals.{add-one}
 use lib.Dec.{ltb}
 use lib.IntN.{ℤ}
 use lib.ListN.{length, get_or, take}
@@ -16,8 +15,7 @@ use Rattle.sweep.specs.Lists.{Pair, keep, pairs}
 use Rattle.sweep.proofs.Lists.{keep_no}
 use Rattle.ported_arrays.specs.Insertion.{back, insert, insert_all}
 use Rattle.ported_arrays.specs.Agreement.{flat}
-use Rattle.full_active.specs.Ranks.{rises_in, goes_on_in, backwards, starters}
-use Rattle.full_active.specs.Replaced.{Movable}
+use Rattle.full_active.specs.Ranks.{rises_in, goes_on_in, backwards}
 use Rattle.full_list.specs.Listed.{fresh_in, Listed}
 use Rattle.full_points.specs.declared.Spot.{Spot}
 use Rattle.full_step.specs.Halves.{at_point, new_block}
