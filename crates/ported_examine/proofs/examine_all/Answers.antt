@@ -37,9 +37,9 @@ loop-k-preserved c =
     let d = get_or-take c.args.live c.args.active.now c.loop-k.k 0 c.loop-k-test.true in (
       omega arith,
       omega (arith, e.heads, i.3),
-      c.marks-1.given ∙ i.2,
-      c.waiting-1.given ∙ i.3,
-      c.bytes-1.given ∙ i.4,
+      c.examine_two-places.auto.marks ∙ i.2,
+      c.examine_two-places.auto.waiting ∙ i.3,
+      c.examine_two-places.auto.bytes ∙ i.4,
       λ n.
           i.5 n
           ∙ adjacent_step (examine (chart_in n c.args.table.now) c.args.p) (take c.args.live c.args.active.now) c.loop-k.k _ i.0 h

@@ -13,6 +13,3 @@ invariant-loop-k l =
     (1 ≤ l.k) × (l.from ≤ length l.initial.waiting) × (length l.marks ≡ length l.initial.marks) × (length l.waiting ≡ length l.initial.waiting) × (length l.bytes ≡ length l.initial.bytes)
     × ((n : ℕ) → each (examine (chart_in n l.table) l.p) (adjacent (take l.live l.active)) (ledger l.initial.marks l.initial.waiting l.head l.initial.bytes l.end)
     ≡ each (examine (chart_in n l.table) l.p) (adjacent (drop (l.k - 1) (take l.live l.active))) (ledger l.marks l.waiting l.from l.bytes l.to))
-
-abbrev pub decreases-loop-k : goal.decreases-loop-k
-decreases-loop-k l = l.live - l.k

@@ -50,10 +50,10 @@ loop-steps-preserved c =
     let at = c.next_point.ensures in
     let is = c.in-At.is in (
       advances i.0 (omega (arith, c.loop-steps-test)) w.passed w.lives w.heads
-          c.active-1.given c.marks-1.given c.waiting-1.given c.bytes-1.given
+          c.step-at.auto.active c.step-at.auto.marks c.step-at.auto.waiting c.step-at.auto.bytes
           at is s.1.does,
       tallies i.0 i.1 (i.0.active_long ∙ c.requires.1.actives) w.fewer w.lives at is s.1
-          (λ n. length-take-le _ _ (omega (arith, w.lives, c.active-1.given))) c.tally-examined.ensures,
+          (λ n. length-take-le _ _ (omega (arith, w.lives, c.step-at.auto.active))) c.tally-examined.ensures,
     )
 
 pub returns : goal.returns

@@ -10,14 +10,14 @@ pub order_ends-requires : goal.order_ends-requires
 order_ends-requires c = omega (arith, part_long c.args.n c.requires.0, c.requires.0)
 
 pub slice_bounds-ends-end-2 : goal.slice_bounds-ends-end-2
-slice_bounds-ends-end-2 c = front_within c.args.n c.requires.0 c.order_ends.new.ends c.ends-2-1.given
+slice_bounds-ends-end-2 c = front_within c.args.n c.requires.0 c.order_ends.new.ends c.order_ends.auto.ends
 
 pub slice_bounds-go-end : goal.slice_bounds-go-end
-slice_bounds-go-end c = front_long c.args.n c.requires.0 c.order_ends.new.ends c.ends-2-1.given
+slice_bounds-go-end c = front_long c.args.n c.requires.0 c.order_ends.new.ends c.order_ends.auto.ends
 
 pub go-requires : goal.go-requires
-go-requires c = (c.args.n, begun c.args.n c.requires.0 _ c.ends-2-1.given c.args.table.now c.args.bytes.now c.requires.1 c.requires.2 (c.order_ends.ensures c.args.n))
+go-requires c = (c.args.n, begun c.args.n c.requires.0 _ c.order_ends.auto.ends c.args.table.now c.args.bytes.now c.requires.1 c.requires.2 (c.order_ends.ensures c.args.n))
 
 pub returns : goal.returns
 returns c =
-    c.go.ensures c.args.n (begun c.args.n c.requires.0 _ c.ends-2-1.given c.args.table.now c.args.bytes.now c.requires.1 c.requires.2 (c.order_ends.ensures c.args.n))
+    c.go.ensures c.args.n (begun c.args.n c.requires.0 _ c.order_ends.auto.ends c.args.table.now c.args.bytes.now c.requires.1 c.requires.2 (c.order_ends.ensures c.args.n))

@@ -18,8 +18,8 @@ pub loop-x-preserved : goal.loop-x-preserved
 loop-x-preserved c =
     let h : c.loop-x.x < length c.args.here.now = search rules in (
       omega arith,
-      c.marks-1.given ∙ c.loop-x.invariant.1,
-      c.bytes-1.given ∙ c.loop-x.invariant.2,
+      c.report_row-last.auto.marks ∙ c.loop-x.invariant.1,
+      c.report_row-last.auto.bytes ∙ c.loop-x.invariant.2,
       λ n w s.
           c.loop-x.invariant.3 n w s
           ∙ rows_step (report (chart_in n c.args.table.now)) c.args.here.now c.loop-x.x _ h

@@ -1,6 +1,6 @@
 use mathlib.Core.Path.{◌≡◌}
 use mathlib.Core.List.{List}
-use Prim.Native.Nat.{ℕ, ◌-◌, ◌≤◌}
+use Prim.Native.Nat.{ℕ, ◌≤◌}
 use lib.ListN.{length, drop}
 use Rattle.ported_pieces.specs.Table.{chart_in}
 use Rattle.sweep.specs.Lists.{pairs}
@@ -14,6 +14,3 @@ invariant-loop-x l =
     (l.x ≤ length l.here) × (length l.marks ≡ length l.initial.marks) × (length l.bytes ≡ length l.initial.bytes)
     × ((n : ℕ) (w : List ℕ) (s : ℕ) → each (report (chart_in n l.table)) (pairs (drop l.h l.here)) (book l.initial.marks w s l.initial.bytes l.end)
     ≡ each (report (chart_in n l.table)) (pairs (drop l.x l.here)) (book l.marks w s l.bytes l.last))
-
-abbrev pub decreases-loop-x : goal.decreases-loop-x
-decreases-loop-x l = length l.here - l.x

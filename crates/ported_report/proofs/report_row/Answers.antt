@@ -14,15 +14,12 @@ use Rattle.ported_report.proofs.report_row.Goals as goal
 pub loop-y-init : goal.loop-y-init
 loop-y-init c = (search rules, refl, refl, λ n w s. refl)
 
-pub report_pair-last-requires : goal.report_pair-last-requires
-report_pair-last-requires c = tt
-
 pub loop-y-preserved : goal.loop-y-preserved
 loop-y-preserved c =
     let h : c.loop-y.y < length c.args.here.now = search rules in (
       omega arith,
-      c.marks-1.given ∙ c.loop-y.invariant.1,
-      c.bytes-1.given ∙ c.loop-y.invariant.2,
+      c.report_pair-last.auto.marks ∙ c.loop-y.invariant.1,
+      c.report_pair-last.auto.bytes ∙ c.loop-y.invariant.2,
       λ n w s.
           c.loop-y.invariant.3 n w s
           ∙ row_step (report (chart_in n c.args.table.now)) (get_or c.args.here.now c.args.x 0) c.args.here.now c.loop-y.y _ h

@@ -16,9 +16,6 @@ turn-turned-requires c =
     let g = c.gather-h.ensures in
     (c.requires.lives, omega (arith, g.within, g.long), (c.pass_crossings-w1.ensures.passes 0).within, c.requires.waiting_few)
 
-pub shape_of-marks : goal.shape_of-marks
-shape_of-marks c = c.marks-3-1.given ∙ c.marks-2-1.given ∙ c.marks-1.given
-
 pub returns : goal.returns
 returns c =
     let pe = c.pass_ends-e1.ensures in

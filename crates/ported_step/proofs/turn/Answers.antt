@@ -19,10 +19,7 @@ pub examine_all-second-requires : goal.examine_all-second-requires
 examine_all-second-requires c =
     let n = c.enter-now_live.ensures.0 in
     let e = c.examine_all-first.ensures.heads in
-    (omega (arith, n, c.active-3-1.given, c.active-2-1.given, c.active-1.given), omega (arith, e, c.waiting-1.given), omega (arith, c.waiting-1.given, c.requires.3))
-
-pub shape_of-active : goal.shape_of-active
-shape_of-active c = c.active-3-1.given ∙ c.active-2-1.given ∙ c.active-1.given
+    (omega (arith, n, c.resort.auto, c.enter-now_live.auto, c.leave-stay.auto), omega (arith, e, c.examine_all-first.auto.waiting), omega (arith, c.examine_all-first.auto.waiting, c.requires.3))
 
 pub returns : goal.returns
 returns c =
@@ -31,12 +28,12 @@ returns c =
     let n = c.enter-now_live.ensures in
     let r = c.resort.ensures in
     let s = c.examine_all-second.ensures in
-    let long = c.active-1.given in
+    let long = c.leave-stay.auto.active in
     record {
       stayed = sym (length-take-le _ _ (omega (arith, l.0, long, c.requires.0))) ∙ ap length l.1;
       fewer = omega (arith, l.0, c.requires.0);
       lives = omega (arith, n.0, long);
-      heads = omega (arith, s.heads, c.waiting-1.given);
+      heads = omega (arith, s.heads, c.examine_all-first.auto.waiting);
       ranges = r ∙ ap (insert_all _ []) (n.1 ∙ ap₂ (λ (k : ℕ) (x : List ℕ). add k x (keep (enters_by c.args.starting.now c.args.finishing.now c.args.turning.now) (drop c.args.h c.args.here.now))) long l.1);
       examines = λ m.
           s.books m

@@ -14,7 +14,7 @@ pub loop-i-preserved : goal.loop-i-preserved
 loop-i-preserved c =
     let list = c.args.list.now in (
       omega arith,
-      c.table-1.given ∙ c.loop-i.invariant.1,
+      c.write.auto.table ∙ c.loop-i.invariant.1,
       c.write.ensures ∙ one_more list c.args.table.now c.loop-i.table c.loop-i.i _ c.loop-i.invariant.2 c.piece_at.ensures,
     )
 
