@@ -12,7 +12,7 @@ use Rattle.line_segment.specs.Segment.{crossing_of}
 use Rattle.sweep.specs.Ported.{kind_of}
 use Rattle.ported_pieces.specs.Table.{rough_at}
 use Rattle.ported_pieces.proofs.Crossings.{rough_before}
-use Rattle.full_steps.specs.Steps.{State, next, step, move, move_to, run}
+use Rattle.full_steps.specs.Steps.{State, step, move, move_to, run}
 use Rattle.full_points.specs.declared.Spot.{Spot}
 use Rattle.full_points.specs.Spot.{Fair, Marks}
 use Rattle.full_points.proofs.Keys.{marks_lowest}
@@ -28,7 +28,7 @@ use Rattle.full_step.specs.Demand.{BlockAt, CarriesOn}
 use Rattle.full_step.proofs.Carrying.{step_carries}
 use Rattle.full_step.proofs.Crossing.{Turns, crossable, crossed_steps}
 use Rattle.full_ahead.specs.Coming.{Known}
-use Rattle.full_ahead.proofs.Block.{first, last, searched, widened_up, widened_down, crossing_block}
+use Rattle.full_ahead.proofs.Block.{searched, widened_up, widened_down, crossing_block}
 use Rattle.full_at_point.specs.AtPoint.{Awaits, CrossAt, crossing_at}
 
 -- ---- the point that the code holds
