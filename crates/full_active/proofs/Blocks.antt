@@ -5,9 +5,9 @@ use mathlib.Core.Logic.{◌≢◌, ◌⊎◌, inl, inr, ⊎_elim}
 use mathlib.Core.Bool.{Bool, true, false, not, ◌||◌}
 use mathlib.Core.Option.{some}
 use mathlib.Core.List.Memᴰ
-use mathlib.Core.List.{List, [], ◌∷◌, ◌++◌}
+use mathlib.Core.List.{List, [], ◌++◌}
 use mathlib.Core.List.{Memᴰ as In}
-use Prim.Native.Nat.{ℕ, ◌+◌, ◌-◌, ◌≤◌, ◌<◌}
+use Prim.Native.Nat.{ℕ, ◌-◌, ◌≤◌, ◌<◌}
 use native.Mathlib.Omega.{arith}
 use borrow.Author.Tests.{ltb-true, ltb-false, eqb-true}
 use lib.Dec.{ltb, eqb}
@@ -26,7 +26,7 @@ use Rattle.sweep.proofs.Pairs.{upto_in, upto_out}
 use Rattle.sweep.proofs.Ranked.{ranked}
 use Rattle.sweep.proofs.Soonest.{starts_apart}
 use Rattle.full_steps.specs.Steps.{State, next}
-use Rattle.full_steps.specs.InPlace.{is_greater_lem, Sides, InPlaceFacts, below, block, above, renewed, replaced, gathered}
+use Rattle.full_steps.specs.InPlace.{is_greater_lem, Sides, InPlaceFacts, block, renewed, replaced, gathered}
 use Rattle.full_steps.proofs.Step.{Inv}
 use Rattle.full_steps.proofs.Sides.{F, N}
 use Rattle.full_steps.proofs.Replaced.{block_out, goers, comers, Through, through, rises_trans, rises_total, renewed_alone}

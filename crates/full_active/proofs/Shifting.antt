@@ -1,11 +1,11 @@
 -- Members of an array moved along, one by one, from the front where they go down and from the back where they go up.
-use mathlib.Core.Path.{◌≡◌, refl, sym, ap, ap₂, ◌∙◌}
-use mathlib.Core.List.{List, [], ◌∷◌, ◌++◌, append_assoc, append-nil}
+use mathlib.Core.Path.{◌≡◌, sym, ap, ap₂, ◌∙◌}
+use mathlib.Core.List.{List, [], ◌∷◌, ◌++◌, append_assoc}
 use Prim.Native.Nat.{ℕ, zero, suc, ◌+◌, ◌-◌, ◌≤◌, ◌<◌}
 use native.Mathlib.Omega.{arith}
 use native.Mathlib.Numerals.{add-one}
 use lib.ListN.{length, get_or, set, take, drop, length-append, length-drop, take-append-drop}
-use lib.Seq.{sets-eq, paste, paste-zero, paste-suc, length-paste, drop-paste, slice, length-slice, take-add, take_at, drop_at, take-take, take-set-lt, drop-cons, take-append-le, set_split, get_or-drop, get_or-take, length-take-le}
+use lib.Seq.{sets-eq, paste, paste-zero, paste-suc, length-paste, drop-paste, slice, length-slice, take-add, take_at, drop_at, take-take, take-set-lt, drop-cons, set_split, get_or-drop, get_or-take, length-take-le}
 
 -- l with its members from hi on up to k written from `to` on
 abbrev pub moved : (l : List ℕ) (to hi k : ℕ) → List ℕ

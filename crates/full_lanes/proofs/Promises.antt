@@ -5,9 +5,9 @@ use mathlib.Core.List.{List, [], ◌∷◌, map}
 use mathlib.Core.List.Memᴰ.{head as here}
 use mathlib.Core.List.Memᴰ.{tail as there}
 use mathlib.Core.List.{Memᴰ as In}
-use mathlib.Core.Logic.{◌⊎◌, inl, inr, ⊎_elim}
+use mathlib.Core.Logic.{⊎_elim}
 use mathlib.Core.Option.{Option, none, some}
-use Prim.Native.Nat.{ℕ, zero, suc, ◌+◌, ◌<◌, ◌≤◌}
+use Prim.Native.Nat.{ℕ, zero, suc, ◌+◌, ◌<◌}
 use native.Mathlib.Nat.{eq-or-lt_of_le}
 use native.Mathlib.Numerals.{add-one}
 use native.Mathlib.Omega.{arith}
@@ -17,7 +17,6 @@ use lib.ListN.{length, take, get_or}
 use lib.Seq.{length-take-le, get_or-take}
 use Rattle.fractions.specs.Point.{point_order}
 use Rattle.fractions.specs.declared.Point.{Point}
-use Rattle.line_segment.specs.declared.LineSegment.{LineSegment}
 use Rattle.line_segment.specs.declared.Meeting.{Meeting}
 use Rattle.line_segment.specs.declared.Meeting.TheVariants.{Nothing, Crossing, Overlap}
 use Rattle.line_segment.specs.Segment.{intersect_of, cramer_of, crossing_of}
@@ -31,10 +30,9 @@ use Rattle.ported_pieces.specs.Table.{piece_in, rough_at}
 use Rattle.ported_pieces.proofs.Crossings.{rough_before, alike_rough}
 use Rattle.full_steps.specs.InPlace.{lane, lanes, somes}
 use Rattle.full_order.specs.Finer.{finer}
-use Rattle.full_points.specs.Spot.{key_of}
 use Rattle.full_points.proofs.Keys.{key_small}
 use Rattle.full_points.proofs.Crossing.{cramer_charted}
-use Rattle.full_lanes.specs.Lanes.{no_key, keyed, pair_at, ProperPlaces, meeting_at, Taken, Keyed, LeastLane}
+use Rattle.full_lanes.specs.Lanes.{no_key, keyed, pair_at, ProperPlaces, Taken, Keyed, LeastLane}
 use Rattle.full_lanes.specs.Demand.{Beside, ahead, LeastAhead, BesideKeyed, LeastIsAhead}
 use Rattle.full_lanes.proofs.Laning.{the_key}
 

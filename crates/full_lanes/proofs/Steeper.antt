@@ -4,7 +4,7 @@ use mathlib.Core.Logic.{◌≢◌, ⊎_elim}
 use mathlib.Core.Bool.{Bool, true, false, cond}
 use mathlib.Core.List.{List, [], ◌∷◌}
 use mathlib.Core.List.{Memᴰ as In}
-use mathlib.Core.Option.{Option, none, some}
+use mathlib.Core.Option.{none, some}
 use Prim.Native.Nat.{ℕ, zero, suc, ◌+◌, ◌<◌, ◌≤◌}
 use native.Mathlib.Omega.{arith}
 use lib.IntN.{ℤ}
@@ -14,11 +14,10 @@ use Rattle.fractions.specs.Point.{point_order}
 use Rattle.fractions.specs.declared.Point.{Point}
 use Rattle.line_segment.specs.Segment.{intersect_of, crossing_of}
 use Rattle.sweep.specs.Lists.{Pairwise, lesser_first}
-use Rattle.sweep.specs.Chart.{Chart, crosses, kind, at}
+use Rattle.sweep.specs.Chart.{Chart, crosses, at}
 use Rattle.sweep.specs.Queue.{beyond}
 use Rattle.sweep.specs.Geometry.{Occurs, Under, Geometry}
 use Rattle.sweep.specs.Ported.{is_less, kind_of}
-use Rattle.sweep.proofs.Tests.{ask, clash}
 use Rattle.sweep.proofs.Occurring.{min_occurs, max_occurs}
 use Rattle.sweep.proofs.Ranked.{Ranked, ranked, less_yes, less_no}
 use Rattle.sweep.proofs.Between.{Lined, which, bound_some}

@@ -3,9 +3,9 @@
 use mathlib.Core.Path.{◌≡◌, refl, sym, ap, ap₂, subst, ◌∙◌}
 use mathlib.Core.Logic.{◌≢◌}
 use mathlib.Core.Option.{some}
-use mathlib.Core.List.{List, [], ◌++◌}
+use mathlib.Core.List.{List, ◌++◌}
 use mathlib.Core.List.{Memᴰ as In}
-use Prim.Native.Nat.{ℕ, suc, ◌+◌, ◌≤◌, ◌<◌}
+use Prim.Native.Nat.{ℕ, suc, ◌+◌, ◌≤◌}
 use native.Mathlib.Omega.{arith}
 use lib.IntN.{ℤ}
 use lib.ListN.{length, take, length-append}
@@ -22,8 +22,8 @@ use Rattle.sweep_geometry.specs.Demand.{Proper}
 use Rattle.ported_arrays.specs.Agreement.{flat}
 use Rattle.ported_arrays.proofs.Flat.{flat_append}
 use Rattle.ported_pieces.specs.Table.{piece_in}
-use Rattle.full_steps.specs.Steps.{State, start, next, reported, ranged, step, move, move_to, run, answer, answer_of}
-use Rattle.full_steps.specs.InPlace.{Sides, InPlaceFacts, block, renewed, replaced, fresh_pairs}
+use Rattle.full_steps.specs.Steps.{State, start, next, reported, step, move, move_to, run, answer, answer_of}
+use Rattle.full_steps.specs.InPlace.{Sides, InPlaceFacts, renewed, replaced, fresh_pairs}
 use Rattle.full_steps.proofs.Step.{Inv, step_inv}
 use Rattle.full_steps.proofs.Placed.{lo, hi, whole_length}
 use Rattle.full_steps.proofs.Replaced.{same_active}
@@ -38,7 +38,7 @@ use Rattle.full_step.specs.declared.At.{At}
 use Rattle.full_step.specs.Halves.{InBounds, Turnable, at_point, new_block}
 use Rattle.full_step.specs.Whole.{Steppable, Stepped}
 use Rattle.full_step.specs.Carried.{Given, Carried, Starting, StandsAt}
-use Rattle.full_step.specs.Demand.{BlockAt, CarriesOn, StepCarries, StartCarried}
+use Rattle.full_step.specs.Demand.{CarriesOn, StepCarries, StartCarried}
 use Rattle.full_step.proofs.Joined.{fresh_pairs_are, new_block_is, in_place_is}
 use Rattle.full_step.proofs.Fitting.{no_more_than, once_fits}
 use Rattle.full_step.proofs.Besides.{beside_again}

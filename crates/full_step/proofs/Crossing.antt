@@ -4,10 +4,10 @@ use mathlib.Core.Logic.{⊎_elim}
 use mathlib.Core.Bool.{Bool, true, false, cond}
 use mathlib.Core.List.{List, [], ◌∷◌, ◌++◌}
 use mathlib.Core.List.{Memᴰ as In}
-use Prim.Native.Nat.{ℕ, suc, ◌+◌, ◌-◌, ◌≤◌, ◌<◌}
+use Prim.Native.Nat.{ℕ, suc, ◌+◌, ◌≤◌, ◌<◌}
 use native.Mathlib.Omega.{arith}
 use native.Mathlib.Numerals.{add-one}
-use borrow.Author.Tests.{lt-ltb, le-ltb, ltb-true, ltb-false}
+use borrow.Author.Tests.{le-ltb, ltb-true, ltb-false}
 use lib.Dec.{ltb}
 use lib.IntN.{ℤ}
 use lib.ListN.{length, get_or, take, drop}
@@ -16,10 +16,9 @@ use Rattle.fractions.specs.declared.Point.{Point}
 use Rattle.line_segment.specs.declared.Meeting.TheVariants.{Crossing}
 use Rattle.line_segment.specs.Segment.{intersect_of}
 use Rattle.sweep.specs.Lists.{Pair, keep, pairs, lesser_first}
-use Rattle.sweep.specs.Ported.{is_less, slope_order}
+use Rattle.sweep.specs.Ported.{slope_order}
 use Rattle.sweep.proofs.Lists.{keep_yes}
 use Rattle.sweep.proofs.Tests.{ask}
-use Rattle.sweep_geometry.specs.Demand.{Proper}
 use Rattle.ported_arrays.specs.Insertion.{back, insert, insert_all}
 use Rattle.ported_arrays.specs.Agreement.{flat}
 use Rattle.ported_pieces.specs.Table.{piece_in}

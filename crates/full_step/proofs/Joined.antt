@@ -2,7 +2,7 @@
 -- are the active pieces; the pieces that start, by the ends, are those of the chart that do.
 use mathlib.Core.Path.{◌≡◌, sym, ap, ap₂, ◌∙◌}
 use mathlib.Core.Logic.{◌≢◌}
-use mathlib.Core.Bool.{Bool, true, not}
+use mathlib.Core.Bool.{true, not}
 use mathlib.Core.Option.{some}
 use mathlib.Core.List.{List, [], ◌++◌}
 use mathlib.Core.List.{Memᴰ as In}
@@ -28,7 +28,6 @@ use Rattle.full_order.specs.Finer.{finer, sides_of}
 use Rattle.ported_arrays.specs.Insertion.{insert_all}
 use Rattle.ported_pieces.specs.Table.{piece_in}
 use Rattle.ported_heights.proofs.Answers.{neither_less}
-use Rattle.full_active.specs.Parts.{finishes_in}
 use Rattle.full_active.specs.Ranks.{rises_in, goes_on_in, backwards, starters}
 use Rattle.full_active.proofs.Blocks.{block_is, gathered_is, renewed_is}
 use Rattle.full_list.specs.Listed.{fresh_in}

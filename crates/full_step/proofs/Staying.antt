@@ -3,7 +3,7 @@
 use mathlib.Core.Path.{◌≡◌, refl, sym, ap, ap₂, ◌∙◌}
 use mathlib.Core.Option.{Option, none, some}
 use mathlib.Core.List.{List, [], ◌∷◌, ◌++◌, map, map-append, append_assoc}
-use Prim.Native.Nat.{ℕ, zero, suc, ◌+◌, ◌-◌, ◌≤◌, ◌<◌}
+use Prim.Native.Nat.{ℕ, zero, suc, ◌+◌, ◌-◌, ◌<◌}
 use native.Mathlib.Omega.{arith}
 use native.Mathlib.Numerals.{add-one}
 use lib.ListN.{length, get_or, take, drop, length-append, length-map, get_or-append}
@@ -12,7 +12,7 @@ use Rattle.sweep.specs.Lists.{Pair, lesser_first, adjacent, adjacent_from}
 use Rattle.sweep.specs.Chart.{Chart}
 use Rattle.sweep.specs.Geometry.{Geometry}
 use Rattle.sweep.proofs.Ranked.{ranked}
-use Rattle.full_steps.specs.Steps.{State, next, ranged}
+use Rattle.full_steps.specs.Steps.{State, next}
 use Rattle.full_steps.specs.InPlace.{Sides, InPlaceFacts, below, block, above, renewed, replaced, lane, lanes, joint, relaned}
 use Rattle.full_steps.proofs.Step.{Inv}
 use Rattle.full_steps.proofs.Sides.{parts}

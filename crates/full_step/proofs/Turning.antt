@@ -1,8 +1,8 @@
 -- A block renewed: how many pieces it has, and that a step does no more than what it says over the arrays.
-use mathlib.Core.Path.{◌≡◌, sym, ap, subst, ◌∙◌}
+use mathlib.Core.Path.{◌≡◌, ap, subst, ◌∙◌}
 use mathlib.Core.List.{List, ◌++◌}
 use mathlib.Core.List.{Memᴰ as In}
-use Prim.Native.Nat.{ℕ, ◌+◌, ◌-◌, ◌≤◌, ◌<◌}
+use Prim.Native.Nat.{ℕ, ◌+◌, ◌-◌, ◌≤◌}
 use native.Mathlib.Omega.{arith}
 use lib.IntN.{ℤ}
 use lib.ListN.{length, get_or, take, replicate, length-append, length-take, length-replicate}
@@ -13,9 +13,7 @@ use Rattle.sweep_geometry.specs.Demand.{Proper}
 use Rattle.ported_pieces.specs.Table.{piece_in}
 use Rattle.full_steps.proofs.Placed.{get_d_in}
 use Rattle.full_lanes.specs.Lanes.{no_key, ProperPlaces}
-use Rattle.full_active.specs.Ranks.{starters}
 use Rattle.full_list.specs.Listed.{fresh_in, Listed}
-use Rattle.full_step.specs.declared.At.{At}
 use Rattle.full_step.specs.Halves.{InBounds, Turnable, Turned, at_point}
 use Rattle.full_step.specs.Whole.{outer_examined, Stepped}
 use Rattle.full_step.proofs.Outer.{outer_take}
