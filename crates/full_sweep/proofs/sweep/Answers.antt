@@ -1,0 +1,21 @@
+-- `full_sweep::sweep` meets its contract: by the verdict on the list and its room.
+use mathlib.Core.Path.{sym, ◌∙◌}
+use lib.ListN.{length}
+use Rattle.charts.proofs.Listing.{listing_goes}
+use Rattle.full_sweep.proofs.Answering.{refused_outcome, done_outcome}
+use Rattle.full_sweep.proofs.sweep.Goals as goal
+
+pub sweep_pieces-requires : goal.sweep_pieces-requires
+sweep_pieces-requires c =
+    listing_goes c.args.list.now (length c.args.pairs.now) _ (sym c.listing_of.ensures ∙ c.in-Accepted.is)
+
+pub returns-in-Refused : goal.returns-in-Refused
+returns-in-Refused c =
+    let t = refused_outcome c.args.list.now c.args.budget c.args.pairs.now _ _ (sym c.listing_of.ensures ∙ c.in-Refused.is) in
+    (c.refused.ensures ∙ t.0, t.1)
+
+pub returns-in-Accepted : goal.returns-in-Accepted
+returns-in-Accepted c =
+    let t = done_outcome c.args.list.now c.args.budget c.args.pairs.now _ (sym c.listing_of.ensures ∙ c.in-Accepted.is) in
+    let r = c.sweep_pieces.ensures in
+    (r.0 ∙ t.0, r.1 ∙ t.1)
