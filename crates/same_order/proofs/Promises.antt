@@ -8,15 +8,13 @@ use mathlib.Core.List.{Memᴰ as In}
 use Prim.Native.Nat.{ℕ, ◌+◌, ◌*◌, ◌≤◌}
 use native.Mathlib.Omega.{arith}
 use lib.IntN.{ℤ}
-use lib.ListN.{length, length-map}
+use lib.ListN.{length}
 use Rattle.charts.specs.Answer.{listing_of}
 use Rattle.charts.specs.Chart.{verdict_of}
 use Rattle.charts.specs.Piece.{piece_at, no_upright}
-use Rattle.charts.specs.declared.Answer.{Answer}
 use Rattle.charts.specs.declared.Verdict.TheVariants.{Accepted}
 use Rattle.charts.proofs.Listing.{listing_goes}
 use Rattle.naive.specs.Pairs.{Pair, bytes, over}
-use Rattle.sweep.specs.Lists.{Pairwise}
 use Rattle.sweep.specs.Chart.{meets, kind}
 use Rattle.sweep.specs.Sought.{all, meeting}
 use Rattle.sweep.proofs.Lists.{pairwise_keep}

@@ -1,7 +1,6 @@
 -- What is promised of the list in plain order beside the sweeps: of what the calls return, and of the bytes that they leave.
 use Rattle.std.specs.Prelude.{◌≡◌, true, List, ℕ, ◌+◌, ◌*◌, ◌≤◌, ℤ, length}
 use Rattle.charts.specs.Answer.{listing_of, refused_with}
-use Rattle.charts.specs.Chart.{verdict_of}
 use Rattle.charts.specs.Piece.{piece_at, no_upright}
 use Rattle.charts.specs.declared.Verdict.TheVariants.{Accepted, Refused}
 use Rattle.naive.specs.Pairs.{bytes, over}
