@@ -18,7 +18,7 @@ use Rattle.charts.specs.declared.Verdict.TheVariants.{Accepted}
 use Rattle.charts.proofs.Accepted.{accepted_most}
 use Rattle.charts.proofs.Room.{room_none}
 use Rattle.chart_file.specs.Groups.{Bytes}
-use Rattle.chart_file.specs.Reading.{Reading, due, stopped, reading_of, Reads}
+use Rattle.chart_file.specs.Reading.{due, stopped, reading_of, Reads}
 use Rattle.chart_file.proofs.Refusals.{refused_few}
 use Rattle.sweep.specs.Lists.{Pair}
 use Rattle.full_steps.specs.Steps.{answer}
