@@ -1,8 +1,8 @@
 -- Which file to open. From another crate: `use Rattle.full_ahead.proofs.FILE.{..}`.
---   the statements of specs/Coming, kept          Promises  lane_comes, end_comes, none_comes
---   the queue from the arrays, its least point    Queue     next_is_end, next_is_lane, lane_two; Least: least_is
---   where the block of the next point stands      Block     searched, crossing_block, widened_up
---   the ends at the next point                    Starts    end_starting, end_split; Keyed: sorted_once, min_of
+--   the statements of specs/Coming, kept          Promises  lane-comes, end-comes, none-comes
+--   the queue from the arrays, its least point    Queue     next-is-end, next-is-lane, lane-two; Least: least-is
+--   where the block of the next point stands      Block     searched, crossing-block, widened-up
+--   the ends at the next point                    Starts    end-starting, end-split; Keyed: sorted-once, min-of
 pub mod Least
 pub mod Queue
 pub mod Keyed

@@ -1,10 +1,10 @@
 -- Which file to open. From another crate: `use Rattle.full_step.proofs.FILE.{..}`.
---   the statements of specs/Demand, kept: a loop over steps      Carrying   step_carries, start_carried
---   the two halves are those of the step done in place           Joined     fresh_pairs_are, new_block_is, in_place_is
---   the lanes after a step stand beside the active pieces        Besides    beside_again
+--   the statements of specs/Demand, kept: a loop over steps      Carrying   step-carries, start-carried
+--   the two halves are those of the step done in place           Joined     fresh-pairs-are, new-block-is, in-place-is
+--   the lanes after a step stand beside the active pieces        Besides    beside-again
 --   .. place by place over the arrays, pair by pair of a state   Relaned, Outer; Staying
---   there is room for the pieces and for the pairs               Fitting    no_more_than, once_fits
---   two neighbours that cross change places                     Crossing   crossable, crossed_steps
+--   there is room for the pieces and for the pairs               Fitting    no-more-than, once-fits
+--   two neighbours that cross change places                     Crossing   crossable, crossed-steps
 --   inside: how many pieces a renewed block has; the whole step  Counts; Turning
 pub mod Counts
 pub mod Joined
