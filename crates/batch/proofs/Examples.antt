@@ -1,6 +1,6 @@
 -- What charts need, the refusals of the whole call in their order, and a number below zero, by the definitions.
 use mathlib.Core.Path.{◌≡◌, refl}
-use mathlib.Core.List.{List, [], ◌∷◌}
+use mathlib.Core.List.{[], ◌∷◌}
 use Prim.Native.Nat.{suc, ◌+◌, ◌-◌, ◌*◌}
 use lib.IntN.{pos, negsuc}
 use lib.ListN.{replicate}

@@ -13,7 +13,7 @@ use Rattle.batch.specs.Single.{swept_alone, left_alone}
 use Rattle.batch.specs.Charts.{need, sum, total, needs, Alone, alone, each, lefts, results}
 use Rattle.batch.specs.Batch.{Roomy, Writes}
 use Rattle.batch.specs.Demand.{numbers_at, part_at}
-use Rattle.batch.proofs.Fitting.{sum_none, sum_more, sum_next}
+use Rattle.batch.proofs.Fitting.{sum_more, sum_next}
 use Rattle.batch.proofs.Stores.{numbers_ten}
 
 -- ---- a list that goes over a longer one, in part after part
