@@ -1,6 +1,5 @@
 -- `is_fitting`: of the first i charts the lengths and the needs are taken off, and what is left is left.
 use mathlib.Core.Path.{sym}
-use Prim.Native.Nat.{◌-◌}
 use native.Mathlib.Numerals.{add-one}
 use native.Mathlib.Omega.{arith}
 use lib.Seq.{take_all}
