@@ -1,2 +1,0 @@
-// What is promised of each chart of a batch stands in specs/.
-#![tactic(auto)]
