@@ -2,8 +2,8 @@
 #![tactic(auto)]
 
 ghost use Rattle.std.specs.Prelude.{◌≡◌, length};
-ghost use Rattle.batch.specs.Numbers.{numbers_of};
-ghost use Rattle.batch.specs.Single.{swept_alone, left_alone};
+ghost use Rattle.batch_result.specs.Numbers.{numbers_of};
+ghost use Rattle.batch_result.specs.Single.{swept_alone, left_alone};
 
 // The single call, with the largest budget.
 pub fn sweep_chart(list: &[i32], pairs: &mut [u8], res: &mut [u64])

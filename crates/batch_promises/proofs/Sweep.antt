@@ -10,7 +10,7 @@ use Rattle.full_sweep.specs.Swept.{sweep_of, lent_after}
 use Rattle.batch.specs.Single.{largest, swept_alone, left_alone}
 use Rattle.batch.proofs.Promises.{each_alone, reads_alone}
 use Rattle.promises.specs.Sweep.{SweepPromises}
-use Rattle.c_promises.proofs.C.{fewer}
+use Rattle.full_promises.proofs.C.{fewer}
 use Rattle.full_promises.specs.Sweep.{Full, EveryChart}
 use Rattle.full_promises.proofs.Full.{full_promises}
 use Rattle.batch_promises.specs.Sweep.{InBatch}

@@ -20,7 +20,7 @@ ghost use Rattle.supplied.specs.Checking.{checked_of};
 ghost use Rattle.folded_line.specs.Drawing.{Draws};
 ghost use Rattle.plain_order.specs.Plain.{plain_of};
 ghost use Rattle.plain_order.specs.Plain.{lent_after as ordered_after};
-ghost use Rattle.batch.specs.Batch.{Batches};
+ghost use Rattle.sweep_batch.specs.Batch.{Batches};
 ghost use Rattle.c_records.specs.Sweeps.{swept_fields};
 ghost use Rattle.c_records.specs.Checks.{checked_as};
 ghost use Rattle.c_records.specs.Numbers.{turn_number, order_number, point_of};

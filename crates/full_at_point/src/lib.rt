@@ -9,10 +9,9 @@ ghost use Rattle.full_at_point.specs.AtPoint.{Ready, Stepping, CrossAt, crossing
 use fractions::Point;
 use full_block::{search, widen_down, widen_up};
 use full_ends::{end_x, end_y};
-use full_outer::cross;
 use full_points::{spot_at, spot_of};
 use full_step::At;
-use full_whole::{step, step_at_end};
+use full_whole::{cross, step, step_at_end};
 
 // The step at p, the crossing of places k and k + 1, where no end stands. Mostly no other piece goes through it.
 pub fn at_crossing(

@@ -2,14 +2,14 @@
 #![tactic(auto)]
 
 ghost use Rattle.std.specs.Prelude.{ℕ};
-ghost use Rattle.full_step.specs.Carried.{Given};
+ghost use Rattle.full_run.specs.Carried.{Given};
 ghost use Rattle.full_run.specs.Running.{Begun, Stopped};
 
 use charts::MOST;
 use fractions::Point;
 use full_ends::order_ends;
-use full_run::{Stop, last_at};
-use full_visit::visit;
+pub use full_run::Stop;
+use full_run::{last_at, visit};
 
 // Steps until the budget is spent or all ends are passed.
 fn go(

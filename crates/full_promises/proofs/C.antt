@@ -1,9 +1,10 @@
 -- The new mode's call for C: what is promised of the sweep holds of what a C caller has.
 -- Assumes nothing.
 use mathlib.Core.Path.{refl}
-use Rattle.chart_c.proofs.mirtalughe_full_sweep.Reads as sweep_c
+use Rattle.c_promises.proofs.FullSweep as sweep_c
 use Rattle.c_promises.specs.C.{swept_read, InFields}
 use Rattle.c_promises.proofs.C.{within_fields, in_fields}
+pub use Rattle.c_promises.proofs.C.{fewer}
 use Rattle.full_promises.specs.Sweep.{Full, EveryChart, FullPromises}
 use Rattle.full_promises.proofs.Full.{full_promises}
 

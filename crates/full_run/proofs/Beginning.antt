@@ -6,7 +6,7 @@ use lib.IntN.{ℤ}
 use lib.ListN.{length, take, drop, length-replicate}
 use Rattle.charts.specs.Chart.{most}
 use Rattle.full_ends.specs.Ends.{sorted_keys}
-use Rattle.full_step.specs.Carried.{Given}
+use Rattle.full_visit.specs.Carried.{Given}
 use Rattle.ported_run.proofs.Beginning.{zeros, front_is}
 use Rattle.full_run.specs.Running.{Begun}
 

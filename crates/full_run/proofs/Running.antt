@@ -25,10 +25,10 @@ use Rattle.sweep.proofs.Least.{least_none}
 use Rattle.ported_arrays.specs.Agreement.{flat}
 use Rattle.full_steps.specs.Steps.{State, start, next, step, move, move_to, run, answer, answer_of}
 use Rattle.full_ends.specs.Demand.{Split}
-use Rattle.full_step.specs.Carried.{chart}
-use Rattle.full_step.proofs.Carrying.{start_carried}
-use Rattle.full_ahead.proofs.Promises.{none_comes}
-use Rattle.full_ahead.proofs.Queue.{next_least, left, taken, end_next, end_next_in}
+use Rattle.full_visit.specs.Carried.{chart}
+use Rattle.full_visit.proofs.Carrying.{start_carried}
+use Rattle.full_visit.proofs.Promises.{none_comes}
+use Rattle.full_visit.proofs.Queue.{next_least, left, taken, end_next, end_next_in}
 use Rattle.full_visit.specs.declared.Visited.{Visited}
 use Rattle.full_visit.specs.Visit.{After, Visiting}
 use Rattle.full_visit.proofs.Choosing.{known, count}

@@ -7,7 +7,7 @@ use Rattle.charts.specs.Chart.{most}
 use Rattle.ported_arrays.specs.Agreement.{flat}
 use Rattle.full_steps.specs.Steps.{answer}
 use Rattle.full_ends.specs.Ends.{sorted_keys}
-use Rattle.full_step.specs.Carried.{chart, Given}
+use Rattle.full_visit.specs.Carried.{chart, Given}
 use Rattle.ported_run.specs.declared.Last.{Last}
 use Rattle.ported_run.specs.declared.Last.TheVariants.{None, At}
 use Rattle.ported_run.specs.Last.{as_last}

@@ -5,6 +5,7 @@ ghost use Rattle.std.specs.Prelude.{◌≡◌};
 ghost use Rattle.full_run.specs.Running.{last_at};
 
 use fractions::Point;
+pub use full_visit::visit;
 use ported_run::Last;
 
 // Where a run stops: the end of the list, the steps done, whether the queue is empty, and the last point.

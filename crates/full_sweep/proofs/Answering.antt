@@ -32,9 +32,9 @@ use Rattle.full_step.proofs.Fitting.{once_fits}
 use Rattle.bentley_ottmann.specs.declared.Swept.{Swept}
 use Rattle.bentley_ottmann.specs.Swept.{refused_with}
 use Rattle.bentley_ottmann.proofs.Answering.{its_pieces}
-use Rattle.full_run.specs.declared.Stop.{Stop}
+use Rattle.full_loop.specs.declared.Stop.{Stop}
 use Rattle.full_sweep.specs.Swept.{swept_by, listed_over, sweep_of, lent_after}
-use Rattle.full_run.specs.Running.{Stopped}
+use Rattle.full_loop.specs.Running.{Stopped}
 
 -- what the call returns from where its run stops
 abbrev pub told : Stop → Swept

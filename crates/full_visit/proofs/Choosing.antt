@@ -27,12 +27,12 @@ use Rattle.full_lanes.proofs.Promises.{Open, opened, beside_keyed}
 use Rattle.full_lanes.proofs.Steeper.{open_steeper}
 use Rattle.full_active.specs.Ranks.{goes_on_in}
 use Rattle.full_next.specs.Next.{Next}
-use Rattle.full_step.specs.Carried.{chart, Carried}
-use Rattle.full_step.proofs.Joined.{goes_on_is}
-use Rattle.full_ahead.specs.Coming.{Known, Comes}
-use Rattle.full_ahead.proofs.Promises.{lane_comes, end_comes}
-use Rattle.full_ahead.proofs.Queue.{G, F, K, inv, is_active, is_piece, places_proper}
-use Rattle.full_ahead.proofs.Starts.{lane_goes_on}
+use Rattle.full_at_point.specs.Carried.{chart, Carried}
+use Rattle.full_at_point.proofs.Joined.{goes_on_is}
+use Rattle.full_at_point.specs.Coming.{Known, Comes}
+use Rattle.full_at_point.proofs.Promises.{lane_comes, end_comes}
+use Rattle.full_at_point.proofs.Queue.{G, F, K, inv, is_active, is_piece, places_proper}
+use Rattle.full_at_point.proofs.Starts.{lane_goes_on}
 use Rattle.full_at_point.specs.AtPoint.{Awaits, CrossAt, crossing_at}
 use Rattle.full_at_point.proofs.AtPoint.{crossing_lowest, end_lowest}
 use Rattle.full_visit.specs.Visit.{After}

@@ -5,7 +5,7 @@ use Rattle.fractions.specs.Point.{lowest_of}
 use Rattle.full_steps.specs.Steps.{run}
 use Rattle.full_ends.specs.Ends.{sorted_keys}
 use Rattle.full_ends.specs.Demand.{Split}
-use Rattle.full_step.specs.Carried.{chart, Given, Carried}
+use Rattle.full_at_point.specs.Carried.{chart, Given, Carried}
 use Rattle.full_visit.specs.declared.Visited.{Visited}
 
 -- the arrays after m steps, and the ends passed

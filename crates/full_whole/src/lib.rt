@@ -8,6 +8,7 @@ ghost use Rattle.full_step.specs.Whole.{Steppable, Stepped};
 use fractions::Point;
 use full_end_alone::{Alone, enter, leave, lone_end};
 use full_halves::{report, turn};
+pub use full_outer::cross;
 use full_outer::examine_outer;
 use full_points::Spot;
 use full_step::At;

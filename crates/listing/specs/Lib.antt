@@ -2,3 +2,4 @@
 -- In quotation marks: docs/CHART.md, listing, refused line, longest file.
 pub mod Listing
 pub mod Demand
+pub use Rattle.full_sweep.specs.Swept

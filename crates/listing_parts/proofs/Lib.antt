@@ -5,3 +5,4 @@ pub mod Cut
 pub mod Cases
 pub mod Within
 pub mod Printed
+pub use Rattle.listing.proofs.Counts

@@ -24,7 +24,7 @@ use Rattle.sweep.specs.Lists.{Pair}
 use Rattle.full_steps.specs.Steps.{answer}
 use Rattle.full_order.specs.Finer.{finer}
 use Rattle.bentley_ottmann.specs.declared.Swept.{Swept}
-use Rattle.full_sweep.specs.Swept.{sweep_of, lent_after}
+use Rattle.listing.specs.Swept.{sweep_of, lent_after}
 use Rattle.decimals.specs.Text.{ascii}
 use Rattle.listing_lines.specs.Lines.{count_line, complete_line, pairs_in, pair_lines}
 use Rattle.listing_lines.proofs.Widths.{count_width, complete_width}

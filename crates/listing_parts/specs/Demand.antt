@@ -6,7 +6,7 @@ use Rattle.charts.specs.declared.Answer.{Answer}
 use Rattle.chart_file.specs.Groups.{Bytes}
 use Rattle.chart_file.specs.Reading.{Reads}
 use Rattle.bentley_ottmann.specs.declared.Swept.{Swept}
-use Rattle.full_sweep.specs.Swept.{sweep_of, lent_after}
+use Rattle.listing.specs.Swept.{sweep_of, lent_after}
 use Rattle.listing.specs.Listing.{largest, listing_of}
 use Rattle.listing_parts.specs.Parts.{parts_of, longest_part, part_of}
 

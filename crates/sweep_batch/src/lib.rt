@@ -1,7 +1,7 @@
 // Several charts in one call: their lists stand end to end, and each is swept as it would be alone.
 #![tactic(auto)]
 
-ghost use Rattle.batch.specs.Batch.{Roomy, Writes, Batches};
+ghost use Rattle.batch_refusals.specs.Batch.{Roomy, Writes, Batches};
 
 use batch_chart::sweep_chart;
 use batch_refusals::NUMBERS;

@@ -1,7 +1,7 @@
 -- `sweep_chart`: the single call, and its result in numbers.
 use mathlib.Core.Path.{ap, ◌∙◌}
-use Rattle.batch.specs.Numbers.{numbers_of}
-use Rattle.batch.specs.Single.{swept_alone, left_alone}
+use Rattle.batch_result.specs.Numbers.{numbers_of}
+use Rattle.batch_result.specs.Single.{swept_alone, left_alone}
 use Rattle.batch_chart.proofs.sweep_chart.Goals as goal
 
 pub returns : goal.returns

@@ -3,7 +3,7 @@ use mathlib.Core.Path.{sym}
 use native.Mathlib.Omega.{arith}
 use Prim.Native.Nat.{◌*◌}
 use lib.Seq.{length-take-le}
-use Rattle.listing.proofs.Counts.{most_room}
+use Rattle.listing_parts.proofs.Counts.{most_room}
 use Rattle.listing_parts.proofs.Printed.{of_sweep, pairs_most, part_fits}
 use Rattle.print_parts.proofs.print_list.Goals as goal
 

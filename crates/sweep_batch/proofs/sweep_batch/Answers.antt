@@ -1,6 +1,6 @@
 -- `sweep_batch`: by the number of the refusal.
 use mathlib.Core.Path.{sym, ◌∙◌}
-use Rattle.batch.proofs.Answering.{refused_batch, roomy, done_batch}
+use Rattle.batch_refusals.proofs.Answering.{refused_batch, roomy, done_batch}
 use Rattle.sweep_batch.proofs.sweep_batch.Goals as goal
 
 pub returns-then-number-ne0 : goal.returns-then-number-ne0

@@ -3,7 +3,7 @@ use Prim.Native.Nat.{◌+◌, ◌-◌}
 use native.Mathlib.Numerals.{add-one}
 use native.Mathlib.Omega.{arith}
 use lib.ListN.{get_or, length-take, length-drop}
-use Rattle.batch.proofs.Laying.{Ahead, none_done, ahead, turn, all_done}
+use Rattle.batch_refusals.proofs.Laying.{Ahead, none_done, ahead, turn, all_done}
 use Rattle.sweep_batch.proofs.sweep_charts.Goals as goal
 
 pub loop-i-init : goal.loop-i-init

@@ -1,6 +1,6 @@
 use Prim.Native.Nat.{◌-◌}
 use lib.ListN.{length}
-use Rattle.batch.proofs.Laying.{Done}
+use Rattle.batch_refusals.proofs.Laying.{Done}
 use Rattle.sweep_batch.proofs.sweep_charts.Given as goal
 
 abbrev pub invariant-loop-i : goal.invariant-loop-i

@@ -1,0 +1,2 @@
+-- What the contracts of a batch cite.
+pub use Rattle.batch.specs.Batch
