@@ -9,7 +9,7 @@ ghost use Rattle.naive.specs.AllPairs.{all_pairs_of, lent_after};
 ghost use Rattle.naive.specs.Decoded.{pieces_of, meets_in};
 ghost use Rattle.naive.specs.Sides.{Long};
 
-use charts::{Answer, MOST, Verdict};
+use charts::{Answer, MOST};
 use naive::Pieces;
 use quick_test::meets;
 
@@ -19,8 +19,8 @@ pub fn pieces_of(list: &[i32], n: usize) -> Pieces
     ensures { take n result.all ≡ pieces_of list.now n }
 {
     let mut all = [segment_test::piece(0, 0, 0, 0, 0); MOST];
-    for i in 0..n {
-        all[i] = chart_pieces::piece_at(list, i);
+    for (i, piece) in all[..n].iter_mut().enumerate() {
+        *piece = chart_pieces::piece_at(list, i);
     }
     Pieces { all }
 }
@@ -32,10 +32,9 @@ pub fn list_pairs(pieces: Pieces, n: usize, pairs: &mut [u8]) -> usize
 {
     let all = pieces.all;
     let mut k = 0;
-    for a in 0..n {
-        let asking = all[a];
-        for b in 0..a {
-            if meets(asking, all[b]) {
+    for (a, asking) in all[..n].iter().enumerate() {
+        for (b, other) in all[..a].iter().enumerate() {
+            if meets(*asking, *other) {
                 pairs[2 * k] = a as u8;
                 pairs[2 * k + 1] = b as u8;
                 k += 1;
@@ -50,7 +49,7 @@ pub fn all_pairs(list: &[i32], pairs: &mut [u8]) -> Answer
     ensures { (result ≡ all_pairs_of list.now (length pairs.old)) × (pairs.new ≡ lent_after list.now pairs.old) }
 {
     match chart_verdict::listing_of(list, pairs.len()) {
-        Verdict::Refused(number, place) => chart_verdict::refused(number, place),
-        Verdict::Accepted(n) => chart_verdict::done(list_pairs(pieces_of(list, n), n, pairs)),
+        Err(refusal) => chart_verdict::refused(refusal),
+        Ok(n) => chart_verdict::done(list_pairs(pieces_of(list, n), n, pairs)),
     }
 }

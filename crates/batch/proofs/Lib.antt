@@ -3,7 +3,7 @@
 --   the single call keeps the length of what is lent   Single
 --   what is read in a result's numbers                 Reading
 --   part i and result i of charts end to end           Each
---   inside: sums and refusals, a result's stores, charts end to end, what is answered   Fitting, Stores, Laying, Answering
+--   inside: sums and refusals, a result's length, charts end to end, what is answered   Fitting, Stores, Laying, Answering
 pub mod Fitting
 pub mod Stores
 pub mod Laying

@@ -17,8 +17,8 @@ use Rattle.fractions.specs.declared.Point.{Point}
 use Rattle.charts.specs.Chart.{verdict_of}
 use Rattle.charts.specs.Answer.{room, listing_of}
 use Rattle.charts.specs.Piece.{piece_at}
-use Rattle.charts.specs.declared.Verdict.{Verdict}
-use Rattle.charts.specs.declared.Verdict.TheVariants.{Accepted, Refused}
+use Rattle.charts.specs.Verdict.{Verdict}
+use Rattle.charts.specs.Verdict.{Accepted, Refused}
 use Rattle.charts.proofs.Listing.{listing_goes}
 use Rattle.naive.specs.Pairs.{bytes, over}
 use Rattle.naive.proofs.Rows.{bytes_length}

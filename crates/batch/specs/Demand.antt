@@ -1,12 +1,11 @@
 -- What is promised of the batch, over what a caller has: the list and the lengths, the bytes and the numbers lent, the answer,
 -- and both as they are after the call.
-use Rattle.std.specs.Prelude.{◌≡◌, ◌↔◌, Bool, true, false, cond, List, ℕ, ◌-◌, ◌*◌, ◌≤◌, ◌<◌, ltb, eqb, ℤ, pos, negsuc, length, get_or, take, drop}
+use Rattle.std.specs.Prelude.{◌≡◌, ◌↔◌, Bool, true, false, cond, List, ℕ, ◌-◌, ◌*◌, ◌≤◌, ◌<◌, ltb, eqb, ℤ, pos, negsuc, length, get_or, take, drop, Option, None, Some}
 use Rattle.std.specs.Int.Signed.{mag}
+use Rattle.fractions.specs.declared.Point.{Point}
 use Rattle.charts.specs.Chart.{most}
 use Rattle.charts.specs.Answer.{room, done_with, refused_with}
 use Rattle.charts.specs.declared.Answer.{Answer}
-use Rattle.ported_run.specs.declared.Last.{Last}
-use Rattle.ported_run.specs.declared.Last.TheVariants.{None, At}
 use Rattle.bentley_ottmann.specs.declared.Swept.{Swept}
 use Rattle.batch.specs.Numbers.{word, numbers_of}
 use Rattle.batch.specs.Single.{swept_alone, left_alone}
@@ -90,8 +89,8 @@ abbrev pub ReadsBack : Type 0
 ReadsBack = (z : ℤ) → mag z < 9223372036854775808 → signed (word z) ≡ z
 
 -- ---- what a caller reads in the ten numbers of a result
-abbrev pub last_in : Bool → ℤ → ℤ → ℕ → Last
-last_in true x y d = At (record { x = x; y = y; d = d })
+abbrev pub last_in : Bool → ℤ → ℤ → ℕ → Option Point
+last_in true x y d = Some (record { x = x; y = y; d = d })
 last_in false x y d = None
 
 unfoldable pub swept_in : List ℕ → Swept

@@ -1,7 +1,6 @@
 -- A result in ten numbers of 64 bits, in the order of a sweep's fields.
-use Rattle.std.specs.Prelude.{Bool, true, false, List, [], ◌∷◌, ℕ, ◌-◌, ℤ, pos, negsuc}
-use Rattle.ported_run.specs.declared.Last.{Last}
-use Rattle.ported_run.specs.declared.Last.TheVariants.{None, At}
+use Rattle.std.specs.Prelude.{Bool, true, false, List, [], ◌∷◌, ℕ, ◌-◌, ℤ, pos, negsuc, Option, None, Some}
+use Rattle.fractions.specs.declared.Point.{Point}
 use Rattle.bentley_ottmann.specs.declared.Swept.{Swept}
 
 -- "0 for no, 1 for yes"
@@ -15,9 +14,9 @@ word (pos n) = n
 word (negsuc n) = 18446744073709551615 - n
 
 -- "whether a point was visited, its x, y and d", all zero where none was
-abbrev pub last_numbers : Last → List ℕ
+abbrev pub last_numbers : Option Point → List ℕ
 last_numbers None = 0 ∷ 0 ∷ 0 ∷ 0 ∷ []
-last_numbers (At p) = 1 ∷ word p.x ∷ word p.y ∷ p.d ∷ []
+last_numbers (Some p) = 1 ∷ word p.x ∷ word p.y ∷ p.d ∷ []
 
 -- "number, place, pairs, steps, ended, complete"
 unfoldable pub numbers_of : Swept → List ℕ

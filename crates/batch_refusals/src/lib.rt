@@ -2,10 +2,11 @@
 #![tactic(auto)]
 
 ghost use Rattle.std.specs.Prelude.{◌≡◌};
+ghost use Rattle.charts.specs.Refusal.{fault_number};
 ghost use Rattle.batch.specs.Charts.{need, fits};
 ghost use Rattle.batch.specs.Batch.{refusal_of};
 
-use charts::MOST;
+use charts::{MOST, Reason};
 
 // A call takes at most so many charts.
 pub const CHARTS: usize = 16;
@@ -14,20 +15,15 @@ pub const CHARTS: usize = 16;
 pub const NUMBERS: usize = 10;
 
 // The bytes that the pairs of a list of so many numbers need, none where it is no chart's.
+#[tactic(auto, unfolding(batch::specs::Charts::need, charts::specs::Answer::room))]
 pub fn need_of(numbers: usize) -> usize
     ensures { result ≡ need numbers }
 {
     let n = numbers / 5;
-    if numbers % 5 != 0 {
+    if numbers % 5 != 0 || MOST < n {
         return 0;
     }
-    if MOST < n {
-        return 0;
-    }
-    if n == 0 {
-        return 0;
-    }
-    n * (n - 1)
+    n * n.saturating_sub(1)
 }
 
 // Whether the lengths add up to the numbers given, and what the charts need to no more than the bytes lent. What is left of
@@ -35,16 +31,11 @@ pub fn need_of(numbers: usize) -> usize
 fn is_fitting(lengths: &[usize], numbers: usize, lent: usize) -> bool
     ensures { result ≡ fits lengths.now numbers lent }
 {
-    let charts = lengths.len();
     let mut left = numbers;
     let mut room = lent;
-    for i in 0..charts {
-        let length = lengths[i];
+    for &length in lengths {
         let bytes = need_of(length);
-        if left < length {
-            return false;
-        }
-        if room < bytes {
+        if left < length || room < bytes {
             return false;
         }
         left -= length;
@@ -53,18 +44,18 @@ fn is_fitting(lengths: &[usize], numbers: usize, lent: usize) -> bool
     left == 0
 }
 
-// The number of the refusal of the whole call, 0 where it is done.
-pub fn refusal_of(numbers: usize, lengths: &[usize], lent: usize, results: usize) -> u8
-    ensures { result ≡ refusal_of numbers lengths.now lent results }
+// Why the whole call is refused, if it is.
+#[tactic(auto, unfolding(batch::specs::Batch::refusal_of))]
+pub fn refusal_of(numbers: usize, lengths: &[usize], lent: usize, results: usize) -> Option<Reason>
+    ensures { fault_number result ≡ refusal_of numbers lengths.now lent results }
 {
     if CHARTS < lengths.len() {
-        return 10;
+        Some(Reason::Charts)
+    } else if !is_fitting(lengths, numbers, lent) {
+        Some(Reason::Parts)
+    } else if results / NUMBERS < lengths.len() {
+        Some(Reason::Room)
+    } else {
+        None
     }
-    if is_fitting(lengths, numbers, lent) {
-        if results / NUMBERS < lengths.len() {
-            return 8;
-        }
-        return 0;
-    }
-    11
 }

@@ -11,7 +11,7 @@ use Rattle.line_segment.specs.Piece.{HasLength}
 use Rattle.charts.specs.Chart.{most, verdict_of}
 use Rattle.charts.specs.Answer.{room, listing_of}
 use Rattle.charts.specs.Demand.{Due, done}
-use Rattle.charts.specs.declared.Verdict.TheVariants.{Accepted, Refused}
+use Rattle.charts.specs.Verdict.{Accepted, Refused}
 use Rattle.charts.proofs.Exactly.{refuses_exactly}
 use Rattle.charts.proofs.Accepted.{accepted_most, pieces_have_length}
 use Rattle.charts.specs.Piece.{piece_at, is_upright, no_upright}

@@ -1,15 +1,14 @@
 -- What the sweep's call returns, and what it leaves in the lent bytes.
-use Rattle.std.specs.Prelude.{false, List, ℕ, ℤ, length}
+use Rattle.std.specs.Prelude.{false, List, ℕ, ℤ, length, None}
 use Rattle.line_segment.specs.declared.LineSegment.{LineSegment}
 use Rattle.charts.specs.Answer.{listing_of}
 use Rattle.charts.specs.Piece.{piece_at}
-use Rattle.charts.specs.declared.Verdict.{Verdict}
-use Rattle.charts.specs.declared.Verdict.TheVariants.{Accepted, Refused}
+use Rattle.charts.specs.Verdict.{Verdict}
+use Rattle.charts.specs.Verdict.{Accepted, Refused}
 use Rattle.naive.specs.Pairs.{bytes, over}
 use Rattle.sweep.specs.Ported.{ported}
 use Rattle.sweep.specs.Run.{Answer, answer}
 use Rattle.examinations.specs.Examined.{examined as examined_by}
-use Rattle.ported_run.specs.declared.Last.TheVariants.{None}
 use Rattle.ported_run.specs.Last.{as_last}
 use Rattle.bentley_ottmann.specs.declared.Swept.{Swept}
 

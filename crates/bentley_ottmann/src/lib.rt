@@ -5,11 +5,12 @@ ghost use Rattle.std.specs.Prelude.{◌≡◌, ◌≤◌, length};
 ghost use Rattle.charts.specs.Chart.{verdict_of};
 ghost use Rattle.charts.specs.Answer.{room};
 ghost use Rattle.charts.specs.Piece.{piece_at};
-ghost use Rattle.charts.specs.declared.Verdict.TheVariants.{Accepted};
+ghost use Rattle.charts.specs.Verdict.{Accepted};
+ghost use Rattle.charts.specs.Refusal.{number};
 ghost use Rattle.bentley_ottmann.specs.Swept.{swept_by, listed_over, refused_with, sweep_of, lent_after};
 
-use charts::{MOST, Verdict};
-use ported_run::Last;
+use charts::{MOST, Refusal};
+use fractions::Point;
 
 // What a sweep returns; `pairs` is the count of those listed.
 #[derive(Clone, Copy)]
@@ -23,23 +24,23 @@ pub struct Swept {
     pub ended: bool,
     // whether no piece is upright
     pub complete: bool,
-    pub last: Last,
+    pub last: Option<Point>,
     // the adjacent pairs examined, skipped ones too, in all steps done
     pub examined: u64,
 }
 
 // A refusal, in either mode.
-pub fn refused(number: u8, place: usize) -> Swept
-    ensures { result ≡ refused_with number place }
+pub fn refused(refusal: Refusal) -> Swept
+    ensures { result ≡ refused_with (number refusal.reason) refusal.place }
 {
     Swept {
-        number,
-        place,
+        number: refusal.reason.number(),
+        place: refusal.place,
         pairs: 0,
         steps: 0,
         ended: false,
         complete: false,
-        last: Last::None,
+        last: None,
         examined: 0,
     }
 }
@@ -53,7 +54,6 @@ fn sweep_pieces(list: &[i32], n: usize, budget: u32, pairs: &mut [u8]) -> Swept
     ported_table::fill(list, n, &mut table);
     let stop = ported_loop::run(&table, n, budget, pairs);
     let complete = chart_pieces::no_upright(list, n);
-    let last = stop.last;
     Swept {
         number: 0,
         place: 0,
@@ -61,7 +61,7 @@ fn sweep_pieces(list: &[i32], n: usize, budget: u32, pairs: &mut [u8]) -> Swept
         steps: stop.steps,
         ended: stop.ended,
         complete,
-        last,
+        last: stop.last,
         examined: stop.examined,
     }
 }
@@ -72,7 +72,7 @@ pub fn sweep(list: &[i32], budget: u32, pairs: &mut [u8]) -> Swept
     ensures { (result ≡ sweep_of list.now budget (length pairs.old)) × (pairs.new ≡ lent_after list.now budget pairs.old) }
 {
     match chart_verdict::listing_of(list, pairs.len()) {
-        Verdict::Refused(number, place) => refused(number, place),
-        Verdict::Accepted(n) => sweep_pieces(list, n, budget, pairs),
+        Err(refusal) => refused(refusal),
+        Ok(n) => sweep_pieces(list, n, budget, pairs),
     }
 }

@@ -4,8 +4,8 @@ use mathlib.Core.Path.{◌≡◌, refl, sym, ap, ◌∙◌, subst}
 use mathlib.Core.List.{List}
 use Prim.Native.Nat.{ℕ}
 use lib.IntN.{ℤ}
-use Rattle.ported_run.specs.declared.Last.{Last}
-use Rattle.ported_run.specs.declared.Last.TheVariants.{None, At}
+use Rattle.std.specs.Prelude.{Option, None, Some}
+use Rattle.fractions.specs.declared.Point.{Point}
 use Rattle.bentley_ottmann.specs.declared.Swept.{Swept}
 use Rattle.c_records.specs.Sweeps.{swept_as, swept_fields}
 use Rattle.chart_c.proofs.mirtalughe_all_pairs.Reads as all_pairs_c
@@ -59,9 +59,9 @@ read_fields : (s : Swept) → swept_read (swept_fields s) ≡ s
 unfolding swept_fields
 read_fields s = go s.last refl
   where
-    go : (l : Last) → s.last ≡ l → swept_read (swept_as s s.last) ≡ s
-    go None e = ap (λ (l : Last). swept_read (swept_as s l)) e ∙ λ i. record { number = s.number; place = s.place; pairs = s.pairs; steps = s.steps; ended = s.ended; complete = s.complete; last = sym e i; examined = s.examined }
-    go (At p) e = ap (λ (l : Last). swept_read (swept_as s l)) e ∙ λ i. record { number = s.number; place = s.place; pairs = s.pairs; steps = s.steps; ended = s.ended; complete = s.complete; last = sym e i; examined = s.examined }
+    go : (l : Option Point) → s.last ≡ l → swept_read (swept_as s s.last) ≡ s
+    go None e = ap (λ (l : Option Point). swept_read (swept_as s l)) e ∙ λ i. record { number = s.number; place = s.place; pairs = s.pairs; steps = s.steps; ended = s.ended; complete = s.complete; last = sym e i; examined = s.examined }
+    go (Some p) e = ap (λ (l : Option Point). swept_read (swept_as s l)) e ∙ λ i. record { number = s.number; place = s.place; pairs = s.pairs; steps = s.steps; ended = s.ended; complete = s.complete; last = sym e i; examined = s.examined }
 
 -- so its call for C allows no other outcome, and has all its promises
 pub within_fields : (A : Outcome) (list : List ℤ) (budget : ℕ) (lent : List ℕ) (r : Swept) (after : List ℕ) → InFields A list budget lent r after → A list budget lent r after

@@ -1,16 +1,14 @@
 -- What a C caller reads in the fields of a sweep, so that all promises of the sweep hold of the call for C.
-use Rattle.std.specs.Prelude.{◌≡◌, Bool, true, false, List, ℕ, ℤ}
+use Rattle.std.specs.Prelude.{◌≡◌, Bool, true, false, List, ℕ, ℤ, Option, None, Some}
 use Rattle.fractions.specs.declared.Point.{Point}
-use Rattle.ported_run.specs.declared.Last.{Last}
-use Rattle.ported_run.specs.declared.Last.TheVariants.{None, At}
 use Rattle.bentley_ottmann.specs.declared.Swept.{Swept}
 use Rattle.c_records.specs.declared.SweptFields.{SweptFields}
 use Rattle.c_records.specs.Sweeps.{swept_fields}
 use Rattle.promises.specs.Sweep.{Outcome}
 
 -- where `visited`, the last point is x/d, y/d
-abbrev pub last_read : Bool → Point → Last
-last_read true p = At p
+abbrev pub last_read : Bool → Point → Option Point
+last_read true p = Some p
 last_read false p = None
 
 abbrev pub swept_read : SweptFields → Swept

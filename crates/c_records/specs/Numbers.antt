@@ -2,8 +2,8 @@
 use Rattle.std.specs.Prelude.{ℕ, ℤ, pos, negsuc}
 use Rattle.orientation.specs.declared.Orientation.{Orientation}
 use Rattle.orientation.specs.declared.Orientation.TheVariants.{CounterClockWise, ClockWise, CoLinear}
-use Rattle.fractions.specs.declared.Order.{Order}
-use Rattle.fractions.specs.declared.Order.TheVariants.{Less, Equal, Greater}
+use Rattle.std.specs.declared.cmp.Ordering.{Ordering}
+use Rattle.std.specs.declared.cmp.Ordering.TheVariants.{Less, Equal, Greater}
 use Rattle.fractions.specs.declared.Point.{Point}
 
 unfoldable pub turn_number : Orientation → ℤ
@@ -11,7 +11,7 @@ turn_number CounterClockWise = pos 1
 turn_number ClockWise = negsuc 0
 turn_number CoLinear = pos 0
 
-unfoldable pub order_number : Order → ℤ
+unfoldable pub order_number : Ordering → ℤ
 order_number Less = negsuc 0
 order_number Equal = pos 0
 order_number Greater = pos 1

@@ -1,12 +1,12 @@
 -- What a sweep returns, in C's numbers: the last point by its three numbers, all zero where there is none.
-use Rattle.std.specs.Prelude.{true, false, pos}
-use Rattle.ported_run.specs.declared.Last.{Last}
+use Rattle.std.specs.Prelude.{true, false, pos, Option, None, Some}
+use Rattle.fractions.specs.declared.Point.{Point}
 use Rattle.bentley_ottmann.specs.declared.Swept.{Swept}
 use Rattle.c_records.specs.declared.SweptFields.{SweptFields}
 
 -- "the last point, or none after zero steps"
-abbrev pub swept_as : Swept → Last → SweptFields
-swept_as s Last.None =
+abbrev pub swept_as : Swept → Option Point → SweptFields
+swept_as s None =
     record {
       number = s.number;
       place = s.place;
@@ -20,7 +20,7 @@ swept_as s Last.None =
       d = 0;
       examined = s.examined;
     }
-swept_as s (Last.At p) =
+swept_as s (Some p) =
     record {
       number = s.number;
       place = s.place;

@@ -2,21 +2,21 @@
 #![tactic(auto)]
 
 ghost use Rattle.std.specs.Prelude.{◌≡◌};
+ghost use Rattle.supplied.specs.Entries.{number_of};
 ghost use Rattle.c_records.specs.Sweeps.{swept_as};
 ghost use Rattle.c_records.specs.Checks.{checked_as};
 ghost use Rattle.c_records.specs.Numbers.{turn_number};
-ghost use Rattle.c_records.specs.Meetings.{no_end, end_fields, met_as};
+ghost use Rattle.c_records.specs.Meetings.{end_fields, met_as};
 ghost use Rattle.c_records.specs.Places.{placed_as};
 ghost use Rattle.c_records.specs.Regions.{region_number, half_met_as};
 
 use bentley_ottmann::Swept;
-use half_line::IHalfLineLineSegmentSoS;
+use fractions::Point;
 use line_segment::{EndPoint, Meeting};
 use orientation::Orientation;
 use place::Place;
-use ported_run::Last;
 use region::Region;
-use supplied::Checked;
+use supplied::{Checked, EntryFault};
 
 // An end of a stretch.
 #[repr(C)]
@@ -101,50 +101,45 @@ pub struct HalfMet {
     pub turn: i8,
 }
 
-fn end_of(e: EndPoint) -> End
-    ensures { result ≡ end_fields e }
-{
-    End {
-        x: e.x,
-        y: e.y,
-        included: e.included,
-    }
-}
+const NO_END: End = End {
+    x: 0,
+    y: 0,
+    included: false,
+};
 
-fn no_end() -> End
-    ensures { result ≡ no_end }
-{
-    End {
-        x: 0,
-        y: 0,
-        included: false,
+impl From<EndPoint> for End {
+    ghost from_gives = { λ e r. r ≡ end_fields e };
+
+    fn from(e: EndPoint) -> End {
+        End {
+            x: e.x,
+            y: e.y,
+            included: e.included,
+        }
     }
 }
 
 pub fn fields(number: u8, place: usize, meeting: Meeting) -> Met
     ensures { result ≡ met_as number place meeting }
 {
+    let nothing = Met {
+        number,
+        place,
+        meets: 0,
+        min: NO_END,
+        max: NO_END,
+    };
     match meeting {
-        Meeting::Nothing => Met {
-            number,
-            place,
-            meets: 0,
-            min: no_end(),
-            max: no_end(),
-        },
+        Meeting::Nothing => nothing,
         Meeting::Crossing => Met {
-            number,
-            place,
             meets: 1,
-            min: no_end(),
-            max: no_end(),
+            ..nothing
         },
         Meeting::Overlap(stretch) => Met {
-            number,
-            place,
             meets: 2,
-            min: end_of(stretch.min),
-            max: end_of(stretch.max),
+            min: stretch.min.into(),
+            max: stretch.max.into(),
+            ..nothing
         },
     }
 }
@@ -152,105 +147,106 @@ pub fn fields(number: u8, place: usize, meeting: Meeting) -> Met
 pub fn values(number: u8, place: usize, meeting: Place) -> Placed
     ensures { result ≡ placed_as number place meeting }
 {
+    let nothing = Placed {
+        number,
+        place,
+        meets: 0,
+        x1: 0.0,
+        y1: 0.0,
+        x2: 0.0,
+        y2: 0.0,
+    };
     match meeting {
-        Place::Nothing => Placed {
-            number,
-            place,
-            meets: 0,
-            x1: 0.0,
-            y1: 0.0,
-            x2: 0.0,
-            y2: 0.0,
-        },
+        Place::Nothing => nothing,
         Place::At(p) => Placed {
-            number,
-            place,
             meets: 1,
             x1: p.x,
             y1: p.y,
-            x2: 0.0,
-            y2: 0.0,
+            ..nothing
         },
         Place::Along(p, q) => Placed {
-            number,
-            place,
             meets: 2,
             x1: p.x,
             y1: p.y,
             x2: q.x,
             y2: q.y,
+            ..nothing
         },
     }
 }
 
-pub fn swept_fields(s: Swept, last: Last) -> SweptFields
+pub fn swept_fields(s: Swept, last: Option<Point>) -> SweptFields
     ensures { result ≡ swept_as s last }
 {
+    let unvisited = SweptFields {
+        number: s.number,
+        place: s.place,
+        pairs: s.pairs,
+        steps: s.steps,
+        ended: s.ended,
+        complete: s.complete,
+        visited: false,
+        x: 0,
+        y: 0,
+        d: 0,
+        examined: s.examined,
+    };
     match last {
-        Last::None => SweptFields {
-            number: s.number,
-            place: s.place,
-            pairs: s.pairs,
-            steps: s.steps,
-            ended: s.ended,
-            complete: s.complete,
-            visited: false,
-            x: 0,
-            y: 0,
-            d: 0,
-            examined: s.examined,
-        },
-        Last::At(p) => SweptFields {
-            number: s.number,
-            place: s.place,
-            pairs: s.pairs,
-            steps: s.steps,
-            ended: s.ended,
-            complete: s.complete,
+        None => unvisited,
+        Some(p) => SweptFields {
             visited: true,
             x: p.x,
             y: p.y,
             d: p.d,
-            examined: s.examined,
+            ..unvisited
         },
+    }
+}
+
+fn fault_number(fault: EntryFault) -> usize
+    ensures { result ≡ number_of fault }
+{
+    match fault {
+        EntryFault::NoPiece => 1,
+        EntryFault::Itself => 2,
+        EntryFault::Apart => 3,
+        EntryFault::Repeated => 4,
     }
 }
 
 pub fn checked_fields(checked: Checked) -> CheckedFields
     ensures { result ≡ checked_as checked }
 {
+    let nothing = CheckedFields {
+        number: 0,
+        place: 0,
+        says: 0,
+        first: 0,
+        second: 0,
+    };
     match checked {
-        Checked::Accepted => CheckedFields {
-            number: 0,
-            place: 0,
-            says: 1,
-            first: 0,
-            second: 0,
-        },
-        Checked::Fault(i, fault) => CheckedFields {
-            number: 0,
-            place: 0,
+        Checked::Accepted => CheckedFields { says: 1, ..nothing },
+        Checked::Fault(first, fault) => CheckedFields {
             says: 2,
-            first: i,
-            second: fault,
+            first,
+            second: fault_number(fault),
+            ..nothing
         },
-        Checked::Missing(a, b) => CheckedFields {
-            number: 0,
-            place: 0,
+        Checked::Missing(first, second) => CheckedFields {
             says: 3,
-            first: a,
-            second: b,
+            first,
+            second,
+            ..nothing
         },
         Checked::Refused(number, place) => CheckedFields {
             number,
             place,
-            says: 0,
-            first: 0,
-            second: 0,
+            ..nothing
         },
     }
 }
 
+#[tactic(auto, unfolding(crate::specs::Numbers::turn_number))]
 pub fn turn_number(o: Orientation) -> i8
     ensures { result ≡ turn_number o }
 {
@@ -261,6 +257,7 @@ pub fn turn_number(o: Orientation) -> i8
     }
 }
 
+#[tactic(auto, unfolding(crate::specs::Regions::region_number))]
 pub fn region_number(r: Region) -> u8
     ensures { result ≡ region_number r }
 {
@@ -272,21 +269,21 @@ pub fn region_number(r: Region) -> u8
     }
 }
 
-pub fn half_met(number: u8, meeting: IHalfLineLineSegmentSoS) -> HalfMet
+pub fn half_met(number: u8, meeting: Option<Orientation>) -> HalfMet
     ensures { result ≡ half_met_as number meeting }
 {
+    let nothing = HalfMet {
+        number,
+        place: 0,
+        meets: 0,
+        turn: 0,
+    };
     match meeting {
-        IHalfLineLineSegmentSoS::Nothing => HalfMet {
-            number,
-            place: 0,
-            meets: 0,
-            turn: 0,
-        },
-        IHalfLineLineSegmentSoS::Crossing(o) => HalfMet {
-            number,
-            place: 0,
+        None => nothing,
+        Some(o) => HalfMet {
             meets: 1,
             turn: turn_number(o),
+            ..nothing
         },
     }
 }

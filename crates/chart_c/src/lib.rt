@@ -32,9 +32,10 @@ ghost use Rattle.c_records.specs.Regions.{located_of, half_met_of};
 
 use c_records::{CheckedFields, HalfMet, Located, Met, Placed, SweptFields};
 use charts::Answer;
-use fractions::{Order, Point};
+use fractions::Point;
 use open_chart::Changed;
 use orientation::Orientation;
+use std::cmp::Ordering;
 
 // Which way the three points turn, as its number.
 pub fn mirtalughe_orient(x1: i16, y1: i16, x2: i16, y2: i16, x3: i16, y3: i16) -> i8
@@ -58,9 +59,9 @@ pub fn mirtalughe_compare_points(x1: i64, y1: i64, d1: u64, x2: i64, y2: i64, d2
         d: d2,
     };
     match comparison::compare_points(p, q) {
-        Order::Less => -1,
-        Order::Equal => 0,
-        Order::Greater => 1,
+        Ordering::Less => -1,
+        Ordering::Equal => 0,
+        Ordering::Greater => 1,
     }
 }
 

@@ -10,7 +10,7 @@ use borrow.Author.Tests.{le-ltb, lt-leb, ne_eqb}
 use lib.Dec.{ltb, eqb}
 use lib.ListN.{length, get_or, take, drop, length-append, get_or-append}
 use lib.Seq.{take-append_seam, get_or-take, length-take-le}
-use Rattle.chart_file.specs.declared.Groups.TheVariants.{Value}
+use Rattle.chart_file.specs.Found.{Value}
 use Rattle.chart_file.specs.Groups.{value, marked, groups_at, spelled, Bytes, Canonical}
 use Rattle.chart_file.proofs.Spelling.{marked_last, marked_more, canonical_spelled, value_spelled, length_spelled}
 

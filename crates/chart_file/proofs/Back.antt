@@ -9,8 +9,7 @@ use lib.IntN.{ℤ, pos}
 use lib.ListN.{length, get_or, take, drop, length-drop, take-append-drop}
 use lib.Seq.{take_all, take-suc, drop-cons, length-take-le}
 use Rattle.charts.specs.Chart.{most, number_at}
-use Rattle.chart_file.specs.declared.Groups.TheVariants.{Value, Fault}
-use Rattle.chart_file.specs.declared.Number.TheVariants.{Refused}
+use Rattle.chart_file.specs.Found.{Value, Fault, Refused}
 use Rattle.chart_file.specs.Groups.{Bytes}
 use Rattle.chart_file.specs.Format.{groups, bytes_of, bytes_from, count_of}
 use Rattle.chart_file.specs.Reading.{Reading, due, stopped, numbers, pieces, ended, counted, reading_of}

@@ -12,10 +12,7 @@ use lib.Seq.{take-nil, length-take-le, get_or-take, take-take, take_all}
 use borrow.Author.Tests.{ltb-false, leb-false, le-leb, lt-leb, lt-ltb, eq-eqb}
 use Rattle.charts.specs.Fault.{range, outside}
 use Rattle.charts.specs.Chart.{most, fault_at}
-use Rattle.chart_file.specs.declared.Groups.{Groups}
-use Rattle.chart_file.specs.declared.Groups.TheVariants.{Value, Fault}
-use Rattle.chart_file.specs.declared.Number.{Number}
-use Rattle.chart_file.specs.declared.Number.TheVariants.{Read, Refused}
+use Rattle.chart_file.specs.Found.{Groups, Value, Fault, Number, Read, Refused}
 use Rattle.chart_file.specs.Groups.{value, marked, groups_at}
 use Rattle.chart_file.specs.Coordinate.{signed_of}
 use Rattle.chart_file.specs.Format.{groups, longest}

@@ -10,7 +10,7 @@ use lib.ListN.{length, get_or, length-append}
 use Rattle.charts.specs.Chart.{most, number_at, verdict_of}
 use Rattle.charts.specs.Demand.{Row4, Row5, none, four, five, six, FaultOf, Sound}
 use Rattle.charts.specs.Demand.{Due as ChartDue, done}
-use Rattle.charts.specs.declared.Verdict.TheVariants.{Accepted}
+use Rattle.charts.specs.Verdict.{Accepted}
 use Rattle.charts.proofs.Exactly.{refuses_exactly}
 use Rattle.charts.proofs.Rows.{is_false, says_outside}
 use Rattle.charts.proofs.Ranges.{kind_in}

@@ -12,9 +12,7 @@ use lib.IntN.{ℤ}
 use lib.ListN.{length, get_or, take, drop, length-append, drop_of_length-le}
 use lib.Seq.{take_all, take-append-le, drop-cons, drop-append_seam}
 use Rattle.charts.specs.Chart.{most, number_at, fault_at}
-use Rattle.chart_file.specs.declared.Groups.{Groups}
-use Rattle.chart_file.specs.declared.Groups.TheVariants.{Value, Fault}
-use Rattle.chart_file.specs.declared.Number.{Number}
+use Rattle.chart_file.specs.Found.{Groups, Value, Fault, Number}
 use Rattle.chart_file.specs.Groups.{groups_at, Bytes}
 use Rattle.chart_file.specs.Format.{groups, bytes_of, bytes_from, count_of}
 use Rattle.chart_file.specs.Reading.{Reading, due, stopped, limited, count_at, counted, stands_at, joined, more, numbers, with_length, piece, pieces, ended, reading_of}

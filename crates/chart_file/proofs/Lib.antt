@@ -10,9 +10,11 @@
 --   how much of an input decides its reading      Early        decided-early
 --   which numbers a file is refused with           Refusals     refused-few
 --   the count of pieces that were read            Counts       read-most
--- `Passed`, `Numbers`, `Kept` and `Whole` are what the proofs of the code stand on.
+--   a result is known by what it says of a place   Told         groups-named, number-named
+-- `Bytes`, `Passed`, `Numbers`, `Kept` and `Whole` are what the proofs of the code stand on.
 pub mod Spelling
 pub mod AtPlace
+pub mod Bytes
 pub mod Passed
 pub mod Marks
 pub mod Turned
@@ -28,5 +30,6 @@ pub mod Early
 pub mod Refusals
 pub mod Counts
 pub mod Examples
+pub mod Told
 pub mod Kept
 pub mod Whole

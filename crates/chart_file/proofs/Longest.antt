@@ -7,7 +7,7 @@ use lib.IntN.{ℤ, pos, negsuc}
 use lib.ListN.{length, length-append}
 use Rattle.charts.specs.Fault.{outside, off_range, eq_z, same_ends, fault_of}
 use Rattle.charts.specs.Chart.{most, number_at, fault_at, pieces, verdict_of}
-use Rattle.charts.specs.declared.Verdict.TheVariants.{Accepted}
+use Rattle.charts.specs.Verdict.{Accepted}
 use Rattle.chart_file.specs.Groups.{spelled}
 use Rattle.chart_file.specs.Coordinate.{stored}
 use Rattle.chart_file.specs.Format.{groups, bytes_of, bytes_from, count_of, file_of, longest}

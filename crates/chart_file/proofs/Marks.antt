@@ -10,8 +10,7 @@ use borrow.Author.Tests.{ltb-true, eqb-true, leb-true, leb-false, lt-ltb, le-leb
 use lib.Dec.{leb, ltb, eqb}
 use lib.ListN.{length, get_or, take, drop, take-append-drop, get_or-eq_default}
 use lib.Seq.{length-take-le}
-use Rattle.chart_file.specs.declared.Groups.{Groups}
-use Rattle.chart_file.specs.declared.Groups.TheVariants.{Value, Fault}
+use Rattle.chart_file.specs.Found.{Groups, Value, Fault}
 use Rattle.chart_file.specs.Groups.{value, marked, groups_at, spelled, Bytes, Canonical}
 use Rattle.chart_file.specs.Demand.{Marked, InGroups, number, ends, unended, padded, GroupsExactly}
 use Rattle.chart_file.proofs.Spelling.{marked_last, marked_more, spelled_value, value_below}

@@ -13,10 +13,7 @@ use Rattle.charts.specs.Fault.{range, outside}
 use Rattle.charts.specs.Demand.{Outside}
 use Rattle.charts.proofs.Rows.{is_true, is_false, says_outside}
 use Rattle.charts.proofs.Ranges.{kind_in}
-use Rattle.chart_file.specs.declared.Groups.{Groups}
-use Rattle.chart_file.specs.declared.Groups.TheVariants.{Value, Fault}
-use Rattle.chart_file.specs.declared.Number.{Number}
-use Rattle.chart_file.specs.declared.Number.TheVariants.{Read, Refused}
+use Rattle.chart_file.specs.Found.{Groups, Value, Fault, Number, Read, Refused}
 use Rattle.chart_file.specs.Groups.{groups_at, spelled, Bytes}
 use Rattle.chart_file.specs.Coordinate.{stored, signed_of}
 use Rattle.chart_file.specs.Format.{groups, bytes_of}

@@ -8,7 +8,7 @@ use native.Mathlib.Omega.{arith}
 use borrow.Author.Tests.{le-leb, lt-leb, lt-ltb}
 use lib.ListN.{length, get_or, take, drop, length-drop, drop_of_length-le}
 use lib.Seq.{drop-cons, get_or-drop}
-use Rattle.chart_file.specs.declared.Groups.TheVariants.{Value, Fault}
+use Rattle.chart_file.specs.Found.{Value, Fault}
 use Rattle.chart_file.specs.Groups.{value, marked, groups_at}
 use Rattle.chart_file.proofs.Spelling.{marked_last, marked_more}
 use Rattle.chart_file.proofs.AtPlace.{not_padded}

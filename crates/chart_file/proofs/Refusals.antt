@@ -3,7 +3,7 @@ use mathlib.Core.Path.{◌≡◌}
 use mathlib.Core.List.{List}
 use Prim.Native.Nat.{ℕ, ◌≤◌}
 use native.Mathlib.Omega.{arith}
-use Rattle.chart_file.specs.declared.Groups.TheVariants.{Fault}
+use Rattle.chart_file.specs.Found.{Fault}
 use Rattle.chart_file.specs.Groups.{Bytes}
 use Rattle.chart_file.specs.Reading.{stopped, reading_of}
 use Rattle.chart_file.specs.Demand.{InGroups, ends, unended, padded, Amiss, kind_due, kind, groups_fault, coordinate, Due, count_fault, count, number, piece, extra}

@@ -7,7 +7,7 @@ use native.Mathlib.Omega.{arith}
 use borrow.Author.Tests.{eq-eqb, ne_eqb}
 use lib.IntN.{ℤ}
 use Rattle.charts.specs.Chart.{fault_at}
-use Rattle.chart_file.specs.declared.Number.TheVariants.{Read, Refused}
+use Rattle.chart_file.specs.Found.{Read, Refused}
 use Rattle.chart_file.specs.Reading.{Reading, due, stopped, stands_at, joined, more, numbers, with_length, piece, pieces}
 
 -- ---- the numbers of a piece

@@ -9,11 +9,14 @@ use lib.Dec.{ltb}
 use lib.IntN.{ℤ}
 use lib.ListN.{length, take, drop}
 use Rattle.charts.specs.Chart.{most}
-use Rattle.charts.specs.declared.Answer.{Answer}
+use Rattle.std.specs.Prelude.{Result, Ok, Err}
+use Rattle.charts.specs.Refusal.{number}
+use Rattle.charts.specs.declared.Refusal.{Refusal}
 use Rattle.charts.specs.Answer.{done_with, refused_with}
-use Rattle.chart_file.specs.declared.Groups.{Groups}
-use Rattle.chart_file.specs.declared.Groups.TheVariants.{Value, Fault}
-use Rattle.chart_file.specs.declared.Stop.{Stop}
+use Rattle.std.specs.Result.{MatchResult, IsErrAnd}
+use Rattle.charts.specs.declared.Reason.{Reason}
+use Rattle.chart_file.specs.declared.Found.{Found}
+use Rattle.chart_file.specs.Found.{Groups, Value, Fault, groups_told}
 use Rattle.chart_file.specs.Groups.{groups_at}
 use Rattle.chart_file.specs.Format.{groups}
 use Rattle.chart_file.specs.Demand.{LentExactly}
@@ -35,7 +38,7 @@ module _ (s : List ℕ) (lent : ℕ) where
   some_pieces n next h e = rw (le-ltb _ _ h, e)
 
 -- a count that is read is a chart's
-pub count_most : (s : List ℕ) (n next : ℕ) → count_at s ≡ Value n next → n ≤ most
+count_most : (s : List ℕ) (n next : ℕ) → count_at s ≡ Value n next → n ≤ most
 unfolding count_at limited
 count_most s n next = go (groups_at groups s 0)
   where
@@ -47,41 +50,57 @@ count_most s n next = go (groups_at groups s 0)
     go (Value m k) h = test (ltb most m) m k refl h
     go (Fault f) h = let z : ◌≡◌ {A = ℕ} 0 1 = cc in absurd (omega arith)
 
+-- the count that was found, or its reason handed on with its place
+abbrev pub Handed : Result (Found ℕ) Reason → Result (Found ℕ) Refusal → Type 0
+Handed g r = MatchResult g (λ x. r ≡ Ok x) (λ e. IsErrAnd r (λ d. d ≡ record { reason = e; place = 0 }))
+
+pub counted_ok : (g : Result (Found ℕ) Reason) (found : Found ℕ) (s : List ℕ) → Handed g (Ok found) → groups_told g ≡ count_at s → count_at s ≡ Value found.value found.next
+counted_ok (Ok x) found s q e = let z : found ≡ x = cc in sym e ∙ rw z
+counted_ok (Err reason) found s q e = absurd q
+
+pub counted_err : (g : Result (Found ℕ) Reason) (r : Refusal) (s : List ℕ) → Handed g (Err r) → groups_told g ≡ count_at s → (reason : Reason) × (count_at s ≡ Fault (number reason)) × (r ≡ record { reason = reason; place = 0 })
+counted_err (Ok x) r s q e = cc
+counted_err (Err reason) r s q e = (reason, sym e, q)
+
+pub found_most : (g : Result (Found ℕ) Reason) (found : Found ℕ) (s : List ℕ) → Handed g (Ok found) → groups_told g ≡ count_at s → found.value ≤ most
+found_most g found s h e = count_most s found.value found.next (counted_ok g found s h e)
+
 -- ---- after them
 
-pub left_length : (n : ℕ) (w : Reading) (r : Stop) (list : List ℤ) → Left n w r list → length list ≡ 5 * most
-left_length n (due xs at) r list k = k.2
-left_length n (stopped f p) r list k = k.2
+module _ (n : ℕ) (list : List ℤ) where
+  pub left_length : (w : Reading) (r : Result ℕ Refusal) → Left n w r list → length list ≡ 5 * most
+  left_length (due xs at) r k = k.2
+  left_length (stopped f p) r k = k.1
 
-pub ended_refused : (n : ℕ) (w : Reading) (r : Stop) (list : List ℤ) (size : ℕ) → Left n w r list → (r.number ≡ 0 → ⊥) → ended size w ≡ stopped r.number r.place
-unfolding ended
-ended_refused n (due xs at) r list size k z = absurd (z (ap (λ (t : Stop). t.number) k.0))
-ended_refused n (stopped f p) r list size k z = rw k.0
+  pub ended_refused : (w : Reading) (r : Refusal) (size : ℕ) → Left n w (Err r) list → ended size w ≡ stopped (number r.reason) r.place
+  unfolding ended
+  ended_refused (due xs at) r size k = cc
+  ended_refused (stopped f p) r size k = cc
 
-pub ended_extra : (n : ℕ) (w : Reading) (r : Stop) (list : List ℤ) (size : ℕ) → Left n w r list → r.number ≡ 0 → r.place < size → ended size w ≡ stopped 7 r.place
-unfolding ended
-ended_extra n (due xs at) r list size k z h =
-    let e : at ≡ r.place = ap (λ (t : Stop). t.place) (sym k.0) in
-    rw (e, lt-ltb r.place size h)
-ended_extra n (stopped f p) r list size k z h = absurd (omega (arith, k.1, z, ap (λ (t : Stop). t.number) k.0))
+  pub ended_extra : (w : Reading) (at size : ℕ) → Left n w (Ok at) list → at < size → ended size w ≡ stopped 7 at
+  unfolding ended
+  ended_extra (due xs from) at size k h =
+      let e : from ≡ at = cc in
+      rw (e, lt-ltb at size h)
+  ended_extra (stopped f p) at size k h = cc
 
-pub ended_there : (n : ℕ) (w : Reading) (r : Stop) (list : List ℤ) (size : ℕ) → Left n w r list → r.number ≡ 0 → size ≤ r.place → ended size w ≡ due (take (5 * n) list) r.place
-unfolding ended
-ended_there n (due xs at) r list size k z h =
-    let e : at ≡ r.place = ap (λ (t : Stop). t.place) (sym k.0) in
-    rw (e, le-ltb r.place size h, k.1)
-ended_there n (stopped f p) r list size k z h = absurd (omega (arith, k.1, z, ap (λ (t : Stop). t.number) k.0))
+  pub ended_there : (w : Reading) (at size : ℕ) → Left n w (Ok at) list → size ≤ at → ended size w ≡ due (take (5 * n) list) at
+  unfolding ended
+  ended_there (due xs from) at size k h =
+      let e : from ≡ at = cc in
+      rw (e, le-ltb at size h, k.1)
+  ended_there (stopped f p) at size k h = cc
 
 -- ---- what is answered
 
-module _ (s : List ℕ) (list : List ℤ) (r : Answer) where
-  pub answers_refusal : (f p : ℕ) → lent_reading (length list) s ≡ stopped f p → r ≡ refused_with f p → Reads s list r list
+module _ (s : List ℕ) (list : List ℤ) where
+  pub answers_refusal : (f p : ℕ) → lent_reading (length list) s ≡ stopped f p → Reads s list (refused_with f p) list
   unfolding answer_of content_of
-  answers_refusal f p e a = record { answer = rw e a; content = rw e refl }
+  answers_refusal f p e = record { answer = rw e refl; content = rw e refl }
 
-  pub answers_chart : (after xs : List ℤ) (n at : ℕ) → lent_reading (length list) s ≡ due xs at → length xs ≡ 5 * n → r ≡ done_with n → after ≡ xs ++ drop (5 * n) list → Reads s list r after
+  pub answers_chart : (after xs : List ℤ) (n at : ℕ) → lent_reading (length list) s ≡ due xs at → length xs ≡ 5 * n → after ≡ xs ++ drop (5 * n) list → Reads s list (done_with n) after
   unfolding answer_of content_of
-  answers_chart after xs n at e l a k = record { answer = rw (e, l) (a ∙ ap done_with (omega arith)); content = rw (e, l) k }
+  answers_chart after xs n at e l k = record { answer = rw (e, l) (ap done_with (omega arith)); content = rw (e, l) k }
 
 pub lent_exactly : LentExactly
 unfolding lent_reading

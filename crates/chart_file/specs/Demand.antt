@@ -3,9 +3,8 @@
 use Rattle.std.specs.Prelude.{◌≡◌, ◌↔◌, List, [], ◌∷◌, ◌++◌, ℕ, zero, suc, ◌+◌, ◌*◌, ◌^◌, ◌/◌, ◌≤◌, ◌<◌, ℤ, pos, neg_ℤ, ◌*ℤ◌, ◌-ℤ◌, ◌≤ℤ◌, ◌<ℤ◌, length, get_or, take, drop}
 use Rattle.charts.specs.Chart.{most, number_at, verdict_of}
 use Rattle.charts.specs.Demand.{Outside, Off}
-use Rattle.charts.specs.declared.Verdict.TheVariants.{Accepted}
-use Rattle.chart_file.specs.declared.Groups.{Groups}
-use Rattle.chart_file.specs.declared.Groups.TheVariants.{Value, Fault}
+use Rattle.charts.specs.Verdict.{Accepted}
+use Rattle.chart_file.specs.Found.{Groups, Value, Fault}
 use Rattle.chart_file.specs.Groups.{value, spelled, groups_at, Bytes, Canonical}
 use Rattle.chart_file.specs.Coordinate.{stored, signed_of}
 use Rattle.chart_file.specs.Format.{groups, bytes_of, bytes_from, count_of, file_of, longest}

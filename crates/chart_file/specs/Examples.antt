@@ -1,6 +1,6 @@
 -- The examples of docs/CHART.md of numbers and files, as one table over the definitions; the starred ones are the first five rows.
 use Rattle.std.specs.Prelude.{◌≡◌, [], ◌∷◌, pos, negsuc}
-use Rattle.chart_file.specs.declared.Number.TheVariants.{Read, Refused}
+use Rattle.chart_file.specs.Found.{Read, Refused}
 use Rattle.chart_file.specs.Format.{bytes_of, count_of}
 use Rattle.chart_file.specs.Reading.{due, stopped, coordinate_at, reading_of}
 

@@ -1,8 +1,7 @@
 -- Numbers in groups of seven bits: "low group first, high bit set on every group but the last, in the fewest groups".
 -- The most groups that a number may take is any k.
 use Rattle.std.specs.Prelude.{◌≡◌, cond, ◌&&◌, List, [], ◌∷◌, ℕ, zero, suc, ◌+◌, ◌*◌, ◌/◌, ◌%◌, ◌<◌, ltb, leb, eqb, length, get_or, take, drop}
-use Rattle.chart_file.specs.declared.Groups.{Groups}
-use Rattle.chart_file.specs.declared.Groups.TheVariants.{Value, Fault}
+use Rattle.chart_file.specs.Found.{Groups, Value, Fault}
 
 -- The number that groups stand for: seven bits of each, low group first.
 unfoldable pub value : List ℕ → ℕ

@@ -1,14 +1,13 @@
 -- What the reader makes of a file: "the first fault in reading order", or the chart.
-use Rattle.std.specs.Prelude.{◌≡◌, cond, List, [], ◌∷◌, ◌++◌, ℕ, zero, suc, ◌+◌, ◌*◌, ◌/◌, ◌<◌, ltb, leb, eqb, ℤ, pos, neg_ℤ, length, get_or, take, drop}
+use Rattle.std.specs.Prelude.{◌≡◌, cond, List, [], ◌∷◌, ◌++◌, ℕ, zero, suc, ◌+◌, ◌*◌, ◌/◌, ltb, leb, eqb, ℤ, pos, neg_ℤ, length, get_or, take, drop, Result, Ok}
 use Rattle.charts.specs.Fault.{range, outside}
 use Rattle.charts.specs.Chart.{most, fault_at}
 use Rattle.charts.specs.declared.Answer.{Answer}
+use Rattle.charts.specs.declared.Refusal.{Refusal}
+use Rattle.charts.specs.Verdict.{Refused as RefusedAt}
+use Rattle.charts.specs.Refusal.{told}
 use Rattle.charts.specs.Answer.{done_with, refused_with}
-use Rattle.chart_file.specs.declared.Groups.{Groups}
-use Rattle.chart_file.specs.declared.Groups.TheVariants.{Value, Fault}
-use Rattle.chart_file.specs.declared.Number.{Number}
-use Rattle.chart_file.specs.declared.Number.TheVariants.{Read, Refused}
-use Rattle.chart_file.specs.declared.Stop.{Stop}
+use Rattle.chart_file.specs.Found.{Groups, Value, Fault, Number, Read, Refused}
 use Rattle.chart_file.specs.Groups.{groups_at}
 use Rattle.chart_file.specs.Coordinate.{signed_of}
 use Rattle.chart_file.specs.Format.{groups}
@@ -115,6 +114,6 @@ pub record Reads (s : List ℕ) (list : List ℤ) (r : Answer) (after : List ℤ
   pub content : after ≡ content_of (lent_reading (length list) s) list
 
 -- how the reader of n pieces leaves its own list: with all their numbers in front, or after a refusal
-abbrev pub Left : ℕ → Reading → Stop → List ℤ → Type 0
-Left n (due xs at) r list = (r ≡ record { number = 0; place = at }) × (xs ≡ take (5 * n) list) × (length list ≡ 5 * most)
-Left n (stopped f p) r list = (r ≡ record { number = f; place = p }) × (0 < f) × (length list ≡ 5 * most)
+abbrev pub Left : ℕ → Reading → Result ℕ Refusal → List ℤ → Type 0
+Left n (due xs at) r list = (r ≡ Ok at) × (xs ≡ take (5 * n) list) × (length list ≡ 5 * most)
+Left n (stopped f p) r list = (told r ≡ RefusedAt f p) × (length list ≡ 5 * most)

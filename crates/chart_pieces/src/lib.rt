@@ -77,10 +77,5 @@ pub fn is_upright(s: LineSegment) -> bool
 pub fn no_upright(list: &[i32], n: usize) -> bool
     ensures { result ≡ no_upright list.now n }
 {
-    for i in 0..n {
-        if is_upright(piece_at(list, i)) {
-            return false;
-        }
-    }
-    true
+    (0..n).all(|i| !is_upright(piece_at(list, i)))
 }

@@ -5,7 +5,7 @@ use lib.IntN.{pos, negsuc}
 use lib.Count.{count_leading_zeros}
 use Rattle.charts.specs.Fault.{outside, off_range, eq_z, same_ends, fault_of}
 use Rattle.charts.specs.Chart.{number_at, fault_at, pieces, verdict_of}
-use Rattle.charts.specs.declared.Verdict.TheVariants.{Accepted, Refused}
+use Rattle.charts.specs.Verdict.{Accepted, Refused}
 use Rattle.chart_file.specs.Groups.{spelled}
 use Rattle.chart_file.specs.Coordinate.{stored}
 use Rattle.chart_file.specs.Format.{bytes_of, bytes_from, file_of}

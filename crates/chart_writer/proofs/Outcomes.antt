@@ -10,7 +10,7 @@ use Rattle.charts.specs.Chart.{verdict_of}
 use Rattle.charts.specs.Answer.{done_with, refused_with}
 use Rattle.charts.specs.Demand.{Due, done}
 use Rattle.charts.specs.declared.Answer.{Answer}
-use Rattle.charts.specs.declared.Verdict.TheVariants.{Accepted, Refused}
+use Rattle.charts.specs.Verdict.{Accepted, Refused}
 use Rattle.charts.proofs.Accepted.{accepted_most}
 use Rattle.charts.proofs.Exactly.{refuses_exactly}
 use Rattle.charts.proofs.Lent.{room_goes}

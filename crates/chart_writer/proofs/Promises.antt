@@ -11,8 +11,8 @@ use Rattle.charts.specs.Chart.{most, verdict_of}
 use Rattle.charts.specs.Answer.{done_with, refused_with}
 use Rattle.charts.specs.Demand.{Due, nine, three, piece, RoomDue, refused, eight}
 use Rattle.charts.specs.declared.Answer.{Answer}
-use Rattle.charts.specs.declared.Verdict.{Verdict}
-use Rattle.charts.specs.declared.Verdict.TheVariants.{Accepted, Refused}
+use Rattle.charts.specs.Verdict.{Verdict}
+use Rattle.charts.specs.Verdict.{Accepted, Refused}
 use Rattle.charts.proofs.Lent.{room_accepted, room_refuses_exactly}
 use Rattle.chart_file.specs.Groups.{spelled, Bytes}
 use Rattle.chart_file.specs.Coordinate.{stored}

@@ -4,8 +4,8 @@ use Rattle.charts.specs.Chart.{most}
 use Rattle.charts.specs.Answer.{done_with, refused_with}
 use Rattle.charts.specs.Demand.{RoomDue}
 use Rattle.charts.specs.declared.Answer.{Answer}
-use Rattle.charts.specs.declared.Verdict.{Verdict}
-use Rattle.charts.specs.declared.Verdict.TheVariants.{Accepted, Refused}
+use Rattle.charts.specs.Verdict.{Verdict}
+use Rattle.charts.specs.Verdict.{Accepted, Refused}
 use Rattle.chart_file.specs.Groups.{value, spelled, Bytes, Canonical}
 use Rattle.chart_file.specs.Coordinate.{stored}
 use Rattle.chart_file.specs.Format.{file_of, longest}

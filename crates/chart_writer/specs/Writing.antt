@@ -3,8 +3,8 @@ use Rattle.std.specs.Prelude.{◌≡◌, List, ◌++◌, ℕ, ◌%◌, ◌<◌, 
 use Rattle.charts.specs.Chart.{verdict_of}
 use Rattle.charts.specs.Answer.{answer_of, then_room}
 use Rattle.charts.specs.declared.Answer.{Answer}
-use Rattle.charts.specs.declared.Verdict.{Verdict}
-use Rattle.charts.specs.declared.Verdict.TheVariants.{Accepted, Refused}
+use Rattle.charts.specs.Verdict.{Verdict}
+use Rattle.charts.specs.Verdict.{Accepted, Refused}
 use Rattle.chart_file.specs.Format.{file_of, longest}
 use Rattle.chart_file.specs.Demand.{InRange}
 

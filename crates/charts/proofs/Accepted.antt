@@ -6,7 +6,7 @@ use mathlib.Core.Logic.{inl, inr}
 use Prim.Native.Nat.{ℕ, ◌≤◌, ◌<◌}
 use lib.IntN.{ℤ, pos, neg_ℤ, nat_abs}
 use Rattle.integers.proofs.Order.{Tri, less, same, more, tri, ≡→≤}
-use Rattle.fractions.specs.declared.Order.TheVariants.{Less, Greater}
+use Rattle.std.specs.declared.cmp.Ordering.TheVariants.{Less, Greater}
 use Rattle.line_segment.specs.declared.EndPoint.{EndPoint}
 use Rattle.line_segment.specs.Piece.{end_order, join_by, join_of, piece_of, HasLength, first_included, second_included}
 use Rattle.fractions.specs.Order.{order}
@@ -15,7 +15,7 @@ use Rattle.charts.specs.Fault.{range}
 use Rattle.charts.specs.Chart.{most, number_at, verdict_of}
 use Rattle.charts.specs.Piece.{kind_of, coordinate_of, piece_at}
 use Rattle.charts.specs.Demand.{Off, Due, done, FaultOf, Fault, none, PiecesAsGiven, PiecesHaveLength}
-use Rattle.charts.specs.declared.Verdict.TheVariants.{Accepted}
+use Rattle.charts.specs.Verdict.{Accepted}
 use Rattle.charts.proofs.Rows.{is_false, says_outside}
 use Rattle.charts.proofs.Ranges.{kind_in, kind_kept, coordinate_kept}
 use Rattle.charts.proofs.Exactly.{refuses_exactly}

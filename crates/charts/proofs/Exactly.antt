@@ -13,8 +13,8 @@ use lib.IntN.{ℤ}
 use lib.ListN.{length}
 use Rattle.charts.specs.Chart.{most, number_at, fault_at, next, pieces, verdict_of}
 use Rattle.charts.specs.Demand.{FaultOf, Sound, Due, nine, three, piece, done, RefusesExactly}
-use Rattle.charts.specs.declared.Verdict.{Verdict}
-use Rattle.charts.specs.declared.Verdict.TheVariants.{Accepted, Refused}
+use Rattle.charts.specs.Verdict.{Verdict}
+use Rattle.charts.specs.Verdict.{Accepted, Refused}
 use Rattle.charts.proofs.Rows.{fault_due, fault_given}
 use Rattle.charts.proofs.Pieces.{pieces_none, pieces_sound, pieces_fault, pieces_stay, list_nine, list_three, list_pieces}
 

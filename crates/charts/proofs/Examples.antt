@@ -8,7 +8,7 @@ use Rattle.charts.specs.Fault.{outside, off_range, eq_z, same_ends, fault_of}
 use Rattle.charts.specs.Chart.{number_at, fault_at, pieces, verdict_of}
 use Rattle.charts.specs.Answer.{room, listing_of}
 use Rattle.charts.specs.Pair.{pair_verdict_of}
-use Rattle.charts.specs.declared.Verdict.TheVariants.{Accepted, Refused}
+use Rattle.charts.specs.Verdict.{Accepted, Refused}
 
 abbrev pub five : ℕ → ℕ → ℕ → ℕ → ℕ → List ℤ
 five kind x1 y1 x2 y2 = pos kind ∷ pos x1 ∷ pos y1 ∷ pos x2 ∷ pos y2 ∷ []

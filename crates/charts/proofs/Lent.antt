@@ -10,8 +10,8 @@ use lib.IntN.{ℤ}
 use Rattle.charts.specs.Chart.{verdict_of}
 use Rattle.charts.specs.Answer.{then_room}
 use Rattle.charts.specs.Demand.{RoomDue, refused, eight, roomy, RoomRefusesExactly}
-use Rattle.charts.specs.declared.Verdict.{Verdict}
-use Rattle.charts.specs.declared.Verdict.TheVariants.{Accepted, Refused}
+use Rattle.charts.specs.Verdict.{Verdict}
+use Rattle.charts.specs.Verdict.{Accepted, Refused}
 use Rattle.charts.proofs.Exactly.{refuses_exactly}
 
 module _ (list : List ℤ) (need : ℕ → ℕ) (lent : ℕ) where

@@ -7,6 +7,7 @@
 --   statements of specs/Demand                     Rows, Exactly, Lent, Listing, Ten, Accepted
 --   from the code: tests on signed numbers, casts  Numbers, Ranges
 --   .. the verdict piece by piece, upright pieces  Pieces, Upright
+--   a result is known by the verdict that it says  Refusals    told_named, fault_named, numbered
 pub mod Rows
 pub mod Numbers
 pub mod Ranges
@@ -20,3 +21,4 @@ pub mod Stores
 pub mod Ten
 pub mod Upright
 pub mod Examples
+pub mod Refusals

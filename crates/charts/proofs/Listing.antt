@@ -7,7 +7,7 @@ use lib.IntN.{ℤ}
 use Rattle.charts.specs.Chart.{verdict_of}
 use Rattle.charts.specs.Answer.{room, listing_of}
 use Rattle.charts.specs.Demand.{ListingRefusesExactly}
-use Rattle.charts.specs.declared.Verdict.TheVariants.{Accepted, Refused}
+use Rattle.charts.specs.Verdict.{Accepted, Refused}
 use Rattle.charts.proofs.Lent.{room_refused, room_eight, room_accepted, room_refuses_exactly, room_goes}
 
 module _ (list : List ℤ) (lent : ℕ) where

@@ -10,7 +10,7 @@ use borrow.Author.Tests.{eq-eqb, ne_eqb, lt-ltb, le-ltb}
 use lib.IntN.{ℤ}
 use lib.ListN.{length}
 use Rattle.charts.specs.Chart.{most, fault_at, next, pieces, verdict_of}
-use Rattle.charts.specs.declared.Verdict.TheVariants.{Accepted, Refused}
+use Rattle.charts.specs.Verdict.{Accepted, Refused}
 
 module _ (list : List ℤ) where
   pub pieces_none : pieces list 0 ≡ Accepted 0

@@ -10,8 +10,8 @@ use lib.ListN.{length}
 use Rattle.charts.specs.Chart.{verdict_of}
 use Rattle.charts.specs.Pair.{pair_verdict_of}
 use Rattle.charts.specs.Demand.{PairDue, not_ten, ten, PairRefusesExactly}
-use Rattle.charts.specs.declared.Verdict.{Verdict}
-use Rattle.charts.specs.declared.Verdict.TheVariants.{Refused}
+use Rattle.charts.specs.Verdict.{Verdict}
+use Rattle.charts.specs.Verdict.{Refused}
 use Rattle.charts.proofs.Exactly.{refuses_exactly}
 
 module _ (list : List ℤ) where

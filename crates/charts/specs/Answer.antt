@@ -2,8 +2,8 @@
 use Rattle.std.specs.Prelude.{cond, List, ℕ, ◌*◌, ◌-◌, ltb, ℤ}
 use Rattle.charts.specs.Chart.{verdict_of}
 use Rattle.charts.specs.declared.Answer.{Answer}
-use Rattle.charts.specs.declared.Verdict.{Verdict}
-use Rattle.charts.specs.declared.Verdict.TheVariants.{Accepted, Refused}
+use Rattle.charts.specs.Verdict.{Verdict}
+use Rattle.charts.specs.Verdict.{Accepted, Refused}
 
 -- "Done has place zero; .. a list-making call [returns] the count of pairs."
 abbrev pub done_with : ℕ → Answer

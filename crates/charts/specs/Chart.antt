@@ -1,8 +1,8 @@
 -- A chart as a list of numbers, five a piece, and the verdict on it.
 use Rattle.std.specs.Prelude.{cond, not, List, ℕ, zero, suc, ◌+◌, ◌*◌, ◌/◌, ◌%◌, eqb, ltb, ℤ, pos, length, get_or}
 use Rattle.charts.specs.Fault.{fault_of}
-use Rattle.charts.specs.declared.Verdict.{Verdict}
-use Rattle.charts.specs.declared.Verdict.TheVariants.{Accepted, Refused}
+use Rattle.charts.specs.Verdict.{Verdict}
+use Rattle.charts.specs.Verdict.{Accepted, Refused}
 
 -- "Up to 200 pieces, numbered from 0." (2026-07)
 abbrev pub most : ℕ

@@ -7,8 +7,8 @@ use Rattle.charts.specs.Chart.{most, number_at, verdict_of}
 use Rattle.charts.specs.Piece.{piece_at}
 use Rattle.charts.specs.Answer.{room, then_room, listing_of}
 use Rattle.charts.specs.Pair.{pair_verdict_of}
-use Rattle.charts.specs.declared.Verdict.{Verdict}
-use Rattle.charts.specs.declared.Verdict.TheVariants.{Accepted, Refused}
+use Rattle.charts.specs.Verdict.{Verdict}
+use Rattle.charts.specs.Verdict.{Accepted, Refused}
 
 abbrev pub Outside : ℤ → ℤ → ℤ → Type 0
 Outside low high v = (v <ℤ low) ⊎ (high <ℤ v)

@@ -6,8 +6,8 @@ use Rattle.line_segment.specs.Segment.{intersect_of}
 use Rattle.charts.specs.Chart.{verdict_of}
 use Rattle.charts.specs.Piece.{piece_at}
 use Rattle.charts.specs.declared.MeetingAnswer.{MeetingAnswer}
-use Rattle.charts.specs.declared.Verdict.{Verdict}
-use Rattle.charts.specs.declared.Verdict.TheVariants.{Accepted, Refused}
+use Rattle.charts.specs.Verdict.{Verdict}
+use Rattle.charts.specs.Verdict.{Accepted, Refused}
 
 -- "The pair calls take ten numbers: any other length is 9."
 unfoldable pub pair_verdict_of : List ℤ → Verdict

@@ -11,7 +11,7 @@ use Rattle.integers.proofs.Naturals.{pos-<, pos-≤}
 use Rattle.integers.proofs.Factors.{m*p, *_mono-≤}
 use Rattle.fractions.specs.Order.{order, turned}
 use Rattle.fractions.specs.Fraction.{above, ratio_order, fraction_order}
-use Rattle.fractions.specs.declared.Order.TheVariants.{Less, Equal, Greater}
+use Rattle.std.specs.declared.cmp.Ordering.TheVariants.{Less, Equal, Greater}
 use Rattle.fractions.specs.declared.Fraction.{Fraction}
 use Rattle.fractions.proofs.Orders.{order_less, order_equal, order_greater, order_turned, order_negated}
 use Rattle.fractions.proofs.Ratios.{order_scaled}

@@ -21,10 +21,9 @@ pub fn put_byte(text: &mut [u8], end: usize, byte: u8) -> usize
 pub fn put_word(text: &mut [u8], end: usize, word: &[u8]) -> usize
     ensures { text_of text.new result ≡ put word.now (text_of text.old end) }
 {
-    let size = word.len();
     let mut next = end;
-    for i in 0..size {
-        next = put_byte(text, next, word[i]);
+    for byte in word {
+        next = put_byte(text, next, *byte);
     }
     next
 }

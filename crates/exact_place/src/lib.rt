@@ -4,9 +4,9 @@
 ghost use Rattle.std.specs.Prelude.{◌≡◌};
 ghost use Rattle.place.specs.Place.{along_of, where_of};
 
-use fractions::Order;
 use line_segment::{LineSegment, Meeting};
 use place::Where;
+use std::cmp::Ordering;
 
 // The stretch of an overlap, from its min to its max, whatever its marks: one point where they are
 // equal.
@@ -18,9 +18,9 @@ fn along(s: LineSegment) -> Where
     let from = lowest_terms::whole(min.x, min.y);
     let to = lowest_terms::whole(max.x, max.y);
     match comparison::compare_points(from, to) {
-        Order::Less => Where::Along(from, to),
-        Order::Equal => Where::At(from),
-        Order::Greater => Where::Along(from, to),
+        Ordering::Less => Where::Along(from, to),
+        Ordering::Equal => Where::At(from),
+        Ordering::Greater => Where::Along(from, to),
     }
 }
 

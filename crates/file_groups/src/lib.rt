@@ -36,8 +36,8 @@ pub fn put_groups(v: u32, out: &mut [u8], at: usize) -> usize
 {
     let last = at + more_groups(v);
     let mut rest = v;
-    for i in at..last {
-        out[i] = (128 + rest % 128) as u8;
+    for group in &mut out[at..last] {
+        *group = (128 + rest % 128) as u8;
         rest /= 128;
     }
     out[last] = rest as u8;

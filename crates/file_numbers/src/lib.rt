@@ -1,62 +1,59 @@
 // A number of a chart file at its place: the count, a kind or a coordinate, or why it is refused.
 #![tactic(auto)]
 
-ghost use Rattle.std.specs.Prelude.{◌≡◌};
+ghost use Rattle.std.specs.Prelude.{◌≡◌, slice_get};
+ghost use Rattle.std.specs.Option.{ok_or};
 ghost use Rattle.chart_file.specs.Groups.{groups_at};
+ghost use Rattle.chart_file.specs.Found.{groups_told, number_told};
 ghost use Rattle.chart_file.specs.Coordinate.{signed_of};
 ghost use Rattle.chart_file.specs.Format.{groups};
 ghost use Rattle.chart_file.specs.Reading.{count_at, kind_at, coordinate_at};
 
-use chart_file::{GROUPS, Groups, Number};
-use charts::MOST;
+use chart_file::{Found, GROUPS};
+use charts::{MOST, Reason};
 
 // A coordinate in range is stored as at most twice charts::RANGE.
 const WIDEST: u32 = 2 * (charts::RANGE as u32);
 
-// A byte as a number.
-fn wide(x: u8) -> u32
-    ensures { result ≡ x }
+// The byte at a place of a file that goes on there.
+fn byte_at(file: &[u8], at: usize) -> Result<u8, Reason>
+    ensures { result ≡ ok_or (slice_get file.now at) Reason.FileEnds }
 {
-    x as u32
+    file.get(at).copied().ok_or(Reason::FileEnds)
 }
 
-fn groups_at(file: &[u8], at: usize) -> Groups
-    ensures { result ≡ groups_at groups file.now at }
+fn groups_at(file: &[u8], at: usize) -> Result<Found<u32>, Reason>
+    ensures { groups_told result ≡ groups_at groups file.now at }
 {
     let mut value: u32 = 0;
     let mut weight: u32 = 1;
-    let mut i = at;
+    // by place: an iterator's end would not tell a file that ends here, which is 1, from a group too many, which is 2
     for g in 0..GROUPS {
-        if file.len() <= i {
-            return Groups::Fault(1);
-        }
-        let group = wide(file[i]);
+        let group = u32::from(byte_at(file, at + g)?);
         if group < 128 {
             if 0 < g && group == 0 {
-                return Groups::Fault(2);
+                return Err(Reason::Groups);
             }
-            return Groups::Value(value + weight * group, i + 1);
+            return Ok(Found {
+                value: value + weight * group,
+                next: at + g + 1,
+            });
         }
         value += weight * (group - 128);
         weight *= 128;
-        i += 1;
     }
-    Groups::Fault(2)
+    Err(Reason::Groups)
 }
 
 // The count with which a file begins, and the place after it. Neither a padded count is taken, nor one above MOST.
-pub fn count_at(file: &[u8]) -> Groups
-    ensures { result ≡ count_at file.now }
+pub fn count_at(file: &[u8]) -> Result<Found<u32>, Reason>
+    ensures { groups_told result ≡ count_at file.now }
 {
-    match groups_at(file, 0) {
-        Groups::Fault(f) => Groups::Fault(f),
-        Groups::Value(n, next) => {
-            if (MOST as u32) < n {
-                return Groups::Fault(3);
-            }
-            Groups::Value(n, next)
-        }
+    let count = groups_at(file, 0)?;
+    if (MOST as u32) < count.value {
+        return Err(Reason::Count);
     }
+    Ok(count)
 }
 
 fn signed(v: u32) -> i32
@@ -66,29 +63,28 @@ fn signed(v: u32) -> i32
     if v % 2 == 0 { half } else { -1 - half }
 }
 
-pub fn coordinate_at(file: &[u8], at: usize) -> Number
-    ensures { result ≡ coordinate_at file.now at }
+pub fn coordinate_at(file: &[u8], at: usize) -> Result<Found<i32>, Reason>
+    ensures { number_told result ≡ coordinate_at file.now at }
 {
-    match groups_at(file, at) {
-        Groups::Fault(f) => Number::Refused(f),
-        Groups::Value(v, next) => {
-            if WIDEST < v {
-                return Number::Refused(5);
-            }
-            Number::Read(signed(v), next)
-        }
+    let stored = groups_at(file, at)?;
+    if WIDEST < stored.value {
+        return Err(Reason::Coordinate);
     }
+    Ok(Found {
+        value: signed(stored.value),
+        next: stored.next,
+    })
 }
 
-pub fn kind_at(file: &[u8], at: usize) -> Number
-    ensures { result ≡ kind_at file.now at }
+pub fn kind_at(file: &[u8], at: usize) -> Result<Found<i32>, Reason>
+    ensures { number_told result ≡ kind_at file.now at }
 {
-    if file.len() <= at {
-        return Number::Refused(1);
-    }
-    let kind = file[at];
+    let kind = byte_at(file, at)?;
     if 3 < kind {
-        return Number::Refused(4);
+        return Err(Reason::Kind);
     }
-    Number::Read(kind as i32, at + 1)
+    Ok(Found {
+        value: i32::from(kind),
+        next: at + 1,
+    })
 }

@@ -9,8 +9,8 @@ use borrow.Author.Tests.{ltb-true, ltb-false, eqb-true, eqb-false}
 use lib.Arith.{digits_mod}
 use lib.Dec.{ltb, eqb}
 use Rattle.charts.specs.Answer.{then_room}
-use Rattle.charts.specs.declared.Verdict.{Verdict}
-use Rattle.charts.specs.declared.Verdict.TheVariants.{Accepted, Refused}
+use Rattle.charts.specs.Verdict.{Verdict}
+use Rattle.charts.specs.Verdict.{Accepted, Refused}
 use Rattle.charts.proofs.Rows.{Says, is_true, is_false, says_or, says_and}
 use Rattle.folded_line.specs.Line.{count}
 use Rattle.folded_line.specs.Drawing.{most_order, limit, most_pieces, off, off_range, uneven, line_verdict, drawing_of}

@@ -2,7 +2,7 @@
 use mathlib.Core.Path.{◌≡◌, refl}
 use mathlib.Core.List.{[], ◌∷◌}
 use lib.IntN.{pos}
-use Rattle.charts.specs.declared.Verdict.TheVariants.{Accepted, Refused}
+use Rattle.charts.specs.Verdict.{Accepted, Refused}
 use Rattle.folded_line.specs.Folded.{folded}
 use Rattle.folded_line.specs.Line.{count, joint, kind_of, five, fives, line}
 use Rattle.folded_line.specs.Drawing.{off, off_range, uneven, line_verdict, drawing_of}

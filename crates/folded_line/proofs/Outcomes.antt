@@ -9,7 +9,7 @@ use lib.ListN.{length}
 use lib.Seq.{sets}
 use Rattle.charts.specs.Answer.{done_with, refused_with}
 use Rattle.charts.specs.declared.Answer.{Answer}
-use Rattle.charts.specs.declared.Verdict.TheVariants.{Accepted, Refused}
+use Rattle.charts.specs.Verdict.{Accepted, Refused}
 use Rattle.folded_line.specs.Line.{count, fives, line}
 use Rattle.folded_line.specs.Drawing.{most_pieces, drawing_of, Draws, Sized}
 use Rattle.charts.proofs.Stores.{sets_front}

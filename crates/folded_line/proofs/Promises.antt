@@ -23,7 +23,7 @@ use Rattle.charts.specs.Chart.{most, verdict_of}
 use Rattle.charts.specs.Piece.{piece_at, is_upright, no_upright}
 use Rattle.charts.specs.Answer.{answer_of}
 use Rattle.charts.specs.Demand.{Off, none, FaultOf, done}
-use Rattle.charts.specs.declared.Verdict.TheVariants.{Accepted, Refused}
+use Rattle.charts.specs.Verdict.{Accepted, Refused}
 use Rattle.charts.proofs.Exactly.{refuses_exactly as chart_exactly}
 use Rattle.charts.proofs.Rows.{says_outside}
 use Rattle.charts.proofs.Upright.{upright_none, upright_not}

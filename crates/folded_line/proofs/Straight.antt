@@ -13,7 +13,7 @@ use Rattle.integers.proofs.Ring.{*ℤ_idr}
 use Rattle.integers.proofs.Signs.{<_diff, diff-≡, ≡_diff, <→≤}
 use Rattle.integers.proofs.Order.{<→≢, ≡→≤, ≤-<_trans}
 use Rattle.integers.proofs.Factors.{zero_product}
-use Rattle.fractions.specs.declared.Order.{Order}
+use Rattle.std.specs.declared.cmp.Ordering.{Ordering}
 use Rattle.fractions.specs.declared.Point.{Point}
 use Rattle.fractions.proofs.Points.{Places, left, below, same, above, right, places}
 use Rattle.line_segment.specs.declared.LineSegment.{LineSegment}
@@ -66,14 +66,14 @@ module _ (s : LineSegment) (σ c : ℤ) (first : s.min.y ≡ σ *ℤ s.min.x +�
   unfolding point_of
   holds o i w = record { line = line_on o; from = before (places (point_of s.min) p); upto = after (places p (point_of s.max)) w.upto }
     where
-      before : {t : Order} → Places (point_of s.min) p t → admits t s.min.included ≡ true
+      before : {t : Ordering} → Places (point_of s.min) p t → admits t s.min.included ≡ true
       before (left h) = refl
       before (below e h) = refl
       before (same e f) = i
       before (above e h) = absurd (irreflexive _ _ (one p.y ∙ at_end s.min.x s.min.y first o (sym (e ∙ one p.x))) h)
       before (right h) = absurd (irreflexive _ _ refl (≤-<_trans w.from (subst (λ (z : ℤ). z <ℤ (s.min.x *ℤ pos p.d)) (one p.x) h)))
 
-      after : {t : Order} → Places p (point_of s.max) t → (p.x <ℤ (s.max.x *ℤ pos p.d)) ⊎ ((p.x ≡ s.max.x *ℤ pos p.d) × (s.max.included ≡ true)) → admits t s.max.included ≡ true
+      after : {t : Ordering} → Places p (point_of s.max) t → (p.x <ℤ (s.max.x *ℤ pos p.d)) ⊎ ((p.x ≡ s.max.x *ℤ pos p.d) × (s.max.included ≡ true)) → admits t s.max.included ≡ true
       after (left h) u = refl
       after (below e h) u = refl
       after (same e f) (inl l) = absurd (irreflexive _ _ (sym (one p.x) ∙ e) l)
@@ -89,14 +89,14 @@ module _ (s : LineSegment) (σ c : ℤ) (first : s.min.y ≡ σ *ℤ s.min.x +�
   unfolding point_of
   held_spans l = record { from = before (places (point_of s.min) p) l.from; upto = after (places p (point_of s.max)) l.upto }
     where
-      before : {t : Order} → Places (point_of s.min) p t → admits t s.min.included ≡ true → (s.min.x *ℤ pos p.d) ≤ℤ p.x
+      before : {t : Ordering} → Places (point_of s.min) p t → admits t s.min.included ≡ true → (s.min.x *ℤ pos p.d) ≤ℤ p.x
       before (left h) a = subst (λ (z : ℤ). (s.min.x *ℤ pos p.d) ≤ℤ z) (one p.x) (<→≤ h)
       before (below e h) a = ≡→≤ (e ∙ one p.x)
       before (same e f) a = ≡→≤ (e ∙ one p.x)
       before (above e h) a = flip a
       before (right h) a = flip a
 
-      after : {t : Order} → Places p (point_of s.max) t → admits t s.max.included ≡ true → (p.x <ℤ (s.max.x *ℤ pos p.d)) ⊎ ((p.x ≡ s.max.x *ℤ pos p.d) × (s.max.included ≡ true))
+      after : {t : Ordering} → Places p (point_of s.max) t → admits t s.max.included ≡ true → (p.x <ℤ (s.max.x *ℤ pos p.d)) ⊎ ((p.x ≡ s.max.x *ℤ pos p.d) × (s.max.included ≡ true))
       after (left h) a = inl (subst (λ (z : ℤ). z <ℤ (s.max.x *ℤ pos p.d)) (one p.x) h)
       after (below e h) a = absurd (irreflexive _ _ (one p.y ∙ at_end s.max.x s.max.y last (held_line l) (sym (one p.x) ∙ e)) h)
       after (same e f) a = inr (sym (one p.x) ∙ e, a)

@@ -8,8 +8,8 @@ use native.Mathlib.Omega.{arith}
 use borrow.Author.Tests.{lt-ltb, le-ltb, ltb-true, ltb-false}
 use lib.Dec.{ltb}
 use Rattle.charts.specs.Answer.{then_room}
-use Rattle.charts.specs.declared.Verdict.{Verdict}
-use Rattle.charts.specs.declared.Verdict.TheVariants.{Accepted, Refused}
+use Rattle.charts.specs.Verdict.{Verdict}
+use Rattle.charts.specs.Verdict.{Accepted, Refused}
 use Rattle.folded_line.specs.Folded.{folded}
 use Rattle.folded_line.specs.Line.{count, joint}
 use Rattle.folded_line.specs.Drawing.{most_order, limit, most_pieces, off, off_range, uneven, line_verdict, drawing_of, Sized}

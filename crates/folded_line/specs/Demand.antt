@@ -7,8 +7,8 @@ use Rattle.charts.specs.Chart.{most, number_at, verdict_of}
 use Rattle.charts.specs.Piece.{piece_at, no_upright}
 use Rattle.charts.specs.Answer.{done_with, refused_with}
 use Rattle.charts.specs.declared.Answer.{Answer}
-use Rattle.charts.specs.declared.Verdict.{Verdict}
-use Rattle.charts.specs.declared.Verdict.TheVariants.{Accepted, Refused}
+use Rattle.charts.specs.Verdict.{Verdict}
+use Rattle.charts.specs.Verdict.{Accepted, Refused}
 use Rattle.folded_line.specs.Folded.{folded}
 use Rattle.folded_line.specs.Line.{line}
 use Rattle.folded_line.specs.Drawing.{most_order, limit, most_pieces, drawing_of, Draws}

@@ -2,8 +2,8 @@
 use Rattle.std.specs.Prelude.{◌≡◌, Bool, cond, not, ◌&&◌, ◌||◌, List, ◌++◌, ℕ, ◌*◌, ◌%◌, ◌<◌, ◌≤◌, eqb, ltb, ℤ, length, drop}
 use Rattle.charts.specs.Answer.{answer_of, then_room}
 use Rattle.charts.specs.declared.Answer.{Answer}
-use Rattle.charts.specs.declared.Verdict.{Verdict}
-use Rattle.charts.specs.declared.Verdict.TheVariants.{Accepted, Refused}
+use Rattle.charts.specs.Verdict.{Verdict}
+use Rattle.charts.specs.Verdict.{Accepted, Refused}
 use Rattle.folded_line.specs.Line.{count, line}
 
 -- "an order m (1 to 60), half the sampling rate H (1 to 32,767) and a top speed S (1 to 32,767)"

@@ -7,7 +7,7 @@ use Rattle.fractions.specs.Divisor.{gcd_of, euclid}
 use Rattle.fractions.specs.Turns.{lines_in, lines_of, fib, fib_from}
 use Rattle.fractions.specs.Worked.{Worked}
 use Rattle.fractions.specs.Point.{common, lowest_of, point_order}
-use Rattle.fractions.specs.declared.Order.TheVariants.{Less}
+use Rattle.std.specs.declared.cmp.Ordering.TheVariants.{Less}
 
 -- "Crossing at 2, 2 over 3", from 4, 4 over 6
 crossing : lowest_of (pos 4) (pos 4) 6 ≡ record { x = pos 2; y = pos 2; d = 3 }

@@ -5,7 +5,7 @@
 --   lowest terms                                         LowestTerms   lowest-lowest, lowest-same, one-record
 --   the greatest common divisor                          Euclid        gcd-greatest, greatest-one, gcd-scaled
 --   its quotients, and a number by sign and size         Quotient      quot-size, quot-times, same-record
---   whole parts, floors and remainders, from the code    WholeParts    whole-less, first-whole, floor-less, turned-over
+--   whole parts, floors and remainders, from the code    WholeParts    whole-apart, first-whole, floor-apart, turned-over
 --   the lines of pencil and paper                        Turns         last-says, lines-few, shorter
 pub mod Orders
 pub mod Ratios

@@ -14,7 +14,7 @@ use Rattle.integers.proofs.Naturals.{pos_injective}
 use Rattle.integers.proofs.Ring.{*ℤ_idr}
 use Rattle.fractions.specs.Divisor.{gcd_of}
 use Rattle.fractions.specs.Point.{Lowest, Bounded, point_order, common, lowest_of, whole_of}
-use Rattle.fractions.specs.declared.Order.TheVariants.{Equal}
+use Rattle.std.specs.declared.cmp.Ordering.TheVariants.{Equal}
 use Rattle.fractions.specs.declared.Point.{Point}
 use Rattle.fractions.proofs.Euclid.{gcd_greatest, gcd_scaled}
 use Rattle.fractions.proofs.Quotient.{quot_times, quot_size, same_record}

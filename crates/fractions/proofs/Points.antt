@@ -8,25 +8,21 @@ use lib.Signed.{◌<ℤ◌}
 use Rattle.fractions.specs.Order.{order, turned, and_then}
 use Rattle.fractions.specs.Fraction.{ratio_order}
 use Rattle.fractions.specs.Point.{point_order}
-use Rattle.fractions.specs.declared.Order.{Order}
-use Rattle.fractions.specs.declared.Order.TheVariants.{Less, Equal, Greater}
+use Rattle.std.specs.declared.cmp.Ordering.{Ordering}
+use Rattle.std.specs.declared.cmp.Ordering.TheVariants.{Less, Equal, Greater}
 use Rattle.fractions.specs.declared.Point.{Point}
 use Rattle.fractions.proofs.Orders.{Answer, is_less_lem, is_equal_lem, is_greater, answer, order_less, order_equal, order_greater}
 use Rattle.fractions.proofs.Ratios.{ratio_turned, ratio_trans, ratio_alike, ratio_alike'}
 
 -- the answers of the two steps
-abbrev x_order : Point → Point → Order
+abbrev x_order : Point → Point → Ordering
 x_order p q = ratio_order p.x p.d q.x q.d
 
-abbrev y_order : Point → Point → Order
+abbrev y_order : Point → Point → Ordering
 y_order p q = ratio_order p.y p.d q.y q.d
 
-pub by_x : (p q : Point) {o : Order} → x_order p q ≡ o → and_then o (y_order p q) ≡ point_order p q
-unfolding point_order
-by_x p q e = ap (λ (o : Order). and_then o (y_order p q)) (sym e)
-
 -- ---- what it says, over the whole numbers
-pub data Places (p q : Point) : Order → Type 0 where
+pub data Places (p q : Point) : Ordering → Type 0 where
   left : (p.x *ℤ pos q.d) <ℤ (q.x *ℤ pos p.d) → Places p q Less
   below : p.x *ℤ pos q.d ≡ q.x *ℤ pos p.d → (p.y *ℤ pos q.d) <ℤ (q.y *ℤ pos p.d) → Places p q Less
   same : p.x *ℤ pos q.d ≡ q.x *ℤ pos p.d → p.y *ℤ pos q.d ≡ q.y *ℤ pos p.d → Places p q Equal
@@ -37,17 +33,17 @@ pub places : (p q : Point) → Places p q (point_order p q)
 unfolding point_order ratio_order
 places p q = first (answer (p.x *ℤ pos q.d) (q.x *ℤ pos p.d))
   where
-    second : {o : Order} → p.x *ℤ pos q.d ≡ q.x *ℤ pos p.d → Answer (p.y *ℤ pos q.d) (q.y *ℤ pos p.d) o → Places p q o
+    second : {o : Ordering} → p.x *ℤ pos q.d ≡ q.x *ℤ pos p.d → Answer (p.y *ℤ pos q.d) (q.y *ℤ pos p.d) o → Places p q o
     second e (is_less_lem h) = below e h
     second e (is_equal_lem h) = same e h
     second e (is_greater h) = above e h
 
-    first : {o : Order} → Answer (p.x *ℤ pos q.d) (q.x *ℤ pos p.d) o → Places p q (and_then o (order (p.y *ℤ pos q.d) (q.y *ℤ pos p.d)))
+    first : {o : Ordering} → Answer (p.x *ℤ pos q.d) (q.x *ℤ pos p.d) o → Places p q (and_then o (order (p.y *ℤ pos q.d) (q.y *ℤ pos p.d)))
     first (is_less_lem h) = left h
     first (is_equal_lem e) = second e (answer (p.y *ℤ pos q.d) (q.y *ℤ pos p.d))
     first (is_greater h) = right h
 
-pub placed : {p q : Point} {o : Order} → Places p q o → point_order p q ≡ o
+pub placed : {p q : Point} {o : Ordering} → Places p q o → point_order p q ≡ o
 unfolding point_order ratio_order
 placed (left h) = rw (order_less h)
 placed (below e h) = rw (order_equal e, order_less h)
@@ -56,22 +52,22 @@ placed (above e h) = rw (order_equal e, order_greater h)
 placed (right h) = rw (order_greater h)
 
 -- ---- one answer after another
-clash : {A : Type 0} {o : Order} → o ≡ Less → o ≡ Greater → A
+clash : {A : Type 0} {o : Ordering} → o ≡ Less → o ≡ Greater → A
 clash h k = absurd (let z : ◌≡◌ {A = ℕ} 0 1 = cc in omega arith)
 
-then_turned : (o p : Order) → turned (and_then o p) ≡ and_then (turned o) (turned p)
+then_turned : (o p : Ordering) → turned (and_then o p) ≡ and_then (turned o) (turned p)
 then_turned Less p = refl
 then_turned Equal p = refl
 then_turned Greater p = refl
 
-then_equal : (o p : Order) → and_then o p ≡ Equal → (o ≡ Equal) × (p ≡ Equal)
+then_equal : (o p : Ordering) → and_then o p ≡ Equal → (o ≡ Equal) × (p ≡ Equal)
 then_equal Less p e = absurd (let z : ◌≡◌ {A = ℕ} 0 1 = cc in omega arith)
 then_equal Equal p e = (refl, e)
 then_equal Greater p e = absurd (let z : ◌≡◌ {A = ℕ} 0 1 = cc in omega arith)
 
 -- from p to q, from q to r and from p to r, by x and by y
 then_trans :
-    (pq qr pr pq' qr' pr' : Order) →
+    (pq qr pr pq' qr' pr' : Ordering) →
     (pq ≡ Less → qr ≡ Less → pr ≡ Less) → (pq ≡ Equal → pr ≡ qr) → (qr ≡ Equal → pq ≡ pr) → (pq' ≡ Less → qr' ≡ Less → pr' ≡ Less) →
     and_then pq pq' ≡ Less → and_then qr qr' ≡ Less → and_then pr pr' ≡ Less
 then_trans Less Less pr pq' qr' pr' t l r t' h k = rw (t refl refl)
@@ -119,7 +115,7 @@ module _ (p q r : Point) (hp : 0 < p.d) (hq : 0 < q.d) (hr : 0 < r.d) where
   pub less_at_most : point_order p q ≡ Less → ¬ (point_order q r ≡ Greater) → point_order p r ≡ Less
   less_at_most h k = go (point_order q r) refl
     where
-      go : (o : Order) → point_order q r ≡ o → point_order p r ≡ Less
+      go : (o : Ordering) → point_order q r ≡ o → point_order p r ≡ Less
       go Less e = point_trans p q r hp hq hr h e
       go Equal e = sym (point_alike' p q r hq hr e) ∙ h
       go Greater e = absurd (k e)
@@ -127,7 +123,7 @@ module _ (p q r : Point) (hp : 0 < p.d) (hq : 0 < q.d) (hr : 0 < r.d) where
   pub at_most_less : ¬ (point_order p q ≡ Greater) → point_order q r ≡ Less → point_order p r ≡ Less
   at_most_less h k = go (point_order p q) refl
     where
-      go : (o : Order) → point_order p q ≡ o → point_order p r ≡ Less
+      go : (o : Ordering) → point_order p q ≡ o → point_order p r ≡ Less
       go Less e = point_trans p q r hp hq hr e k
       go Equal e = point_alike p q r hp hq e ∙ k
       go Greater e = absurd (h e)
@@ -135,7 +131,7 @@ module _ (p q r : Point) (hp : 0 < p.d) (hq : 0 < q.d) (hr : 0 < r.d) where
   pub at_most_trans : ¬ (point_order p q ≡ Greater) → ¬ (point_order q r ≡ Greater) → ¬ (point_order p r ≡ Greater)
   at_most_trans h k g = go (point_order p q) refl
     where
-      go : (o : Order) → point_order p q ≡ o → ⊥
+      go : (o : Ordering) → point_order p q ≡ o → ⊥
       go Less e = clash (less_at_most e k) g
       go Equal e = k (sym (point_alike p q r hp hq e) ∙ g)
       go Greater e = h e

@@ -10,15 +10,15 @@ use Rattle.integers.proofs.Factors.{*_mono-<}
 use Rattle.integers.proofs.Ratios.{ratio-<_trans}
 use Rattle.fractions.specs.Order.{order, turned}
 use Rattle.fractions.specs.Fraction.{ratio_order}
-use Rattle.fractions.specs.declared.Order.{Order}
-use Rattle.fractions.specs.declared.Order.TheVariants.{Less, Equal}
+use Rattle.std.specs.declared.cmp.Ordering.{Ordering}
+use Rattle.std.specs.declared.cmp.Ordering.TheVariants.{Less, Equal}
 use Rattle.fractions.proofs.Orders.{Answer, is_less_lem, is_equal_lem, is_greater, answer, order_less, order_equal, order_greater, less_order, equal_order, order_turned}
 
 -- a factor above 0 on both sides
 pub order_scaled : (a b c : ℤ) → pos 0 <ℤ c → order a b ≡ order (a *ℤ c) (b *ℤ c)
 order_scaled a b c p = go (answer a b)
   where
-    go : {o : Order} → Answer a b o → o ≡ order (a *ℤ c) (b *ℤ c)
+    go : {o : Ordering} → Answer a b o → o ≡ order (a *ℤ c) (b *ℤ c)
     go (is_less_lem h) = sym (order_less (*_mono-< a b p h))
     go (is_equal_lem e) = sym (order_equal (ap (λ (z : ℤ). z *ℤ c) e))
     go (is_greater h) = sym (order_greater (*_mono-< b a p h))

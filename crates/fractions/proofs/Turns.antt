@@ -1,5 +1,5 @@
 -- The lines of pencil and paper: enough room for them (`line`), what the last one says (`last_says_lem`), and how few they are (`lines_few`).
-use mathlib.Core.Path.{◌≡◌, refl, sym, ap, ◌∙◌, subst}
+use mathlib.Core.Path.{◌≡◌, refl, ap, ◌∙◌, subst}
 use mathlib.Core.Bool.{Bool, true, false, cond}
 use mathlib.Core.List.{List, [], ◌∷◌}
 use mathlib.Core.Logic.{◌⊎◌, inl, inr, ⊎_elim}
@@ -13,9 +13,9 @@ use lib.ListN.{length}
 use Rattle.fractions.specs.Order.{order, and_then}
 use Rattle.fractions.specs.Fraction.{ratio_order}
 use Rattle.fractions.specs.Turns.{Line, line_of, goes_on, lines_in, lines_of, decided, last_says, fib, fib_from}
-use Rattle.fractions.specs.declared.Order.{Order}
+use Rattle.std.specs.declared.cmp.Ordering.{Ordering}
 use Rattle.integers.proofs.Naturals.{<_pos, pos_injective}
-use Rattle.fractions.proofs.Orders.{Answer, is_less_lem, is_equal_lem, is_greater, answer, nat_greater}
+use Rattle.fractions.proofs.Orders.{Answer, is_less_lem, is_equal_lem, is_greater, answer}
 use Rattle.fractions.proofs.WholeParts.{whole_less, whole_more, first_whole, second_whole, turned_over}
 
 -- what goes on is known of a line that does
@@ -91,11 +91,10 @@ module _ (n d m e : ℕ) (hd : 0 < d) (he : 0 < e) where
       go : (u v : Bool) → ltb 0 (n % d) ≡ u → ltb 0 (m % e) ≡ v → order (pos (n % d)) (pos (m % e)) ≡ ratio_order (pos n) d (pos m) e
       go false v p q =
           let z : n % d ≡ 0 = omega (arith, ltb-false 0 (n % d) p) in
-          ap (λ (k : ℕ). order (pos k) (pos (m % e))) z ∙ first_whole n d m e hd he h z
+          first_whole n d m e hd he h z
       go true false p q =
           let z : m % e ≡ 0 = omega (arith, ltb-false 0 (m % e) q) in
-          let k = ltb-true 0 (n % d) p in
-          sym (nat_greater (omega arith)) ∙ second_whole n d m e hd he h k z
+          second_whole n d m e hd he h z
       go true true p q =
           let g = goes_on_lem n d m e (record { wholes = h; first = ltb-true 0 (n % d) p; second = ltb-true 0 (m % e) q }) in
           let z : ◌≡◌ {A = ℕ} 0 1 = cc in
@@ -104,7 +103,7 @@ module _ (n d m e : ℕ) (hd : 0 < d) (he : 0 < e) where
   ends : goes_on (line_of n d m e) ≡ false → decided (line_of n d m e) ≡ ratio_order (pos n) d (pos m) e
   ends f = go (answer (pos (n / d)) (pos (m / e)))
     where
-      go : {o : Order} → Answer (pos (n / d)) (pos (m / e)) o → and_then o (order (pos (n % d)) (pos (m % e))) ≡ ratio_order (pos n) d (pos m) e
+      go : {o : Ordering} → Answer (pos (n / d)) (pos (m / e)) o → and_then o (order (pos (n % d)) (pos (m % e))) ≡ ratio_order (pos n) d (pos m) e
       go (is_less_lem h) = whole_less n d m e hd he (<_pos h)
       go (is_equal_lem h) = left_says (pos_injective h) f
       go (is_greater h) = whole_more n d m e hd he (<_pos h)

@@ -1,15 +1,15 @@
 -- The order of n over d and m over e by their whole parts, and by what is left of them where those are the same.
 use mathlib.Core.Path.{◌≡◌, sym, ap, ap₂, ◌∙◌}
 use Prim.Native.Nat.{ℕ, suc, ◌+◌, ◌-◌, ◌*◌, ◌/◌, ◌%◌, ◌<◌, ◌≤◌}
-use native.Mathlib.Nat.{mod-lt, div-add-mod', add-mul, mul_assoc, mul_comm, suc-mul, zero-mul, mul-le-mul_right, mul-lt-mul_of_pos_right, mul-pos}
+use native.Mathlib.Nat.{mod-lt, div-add-mod', add-mul, mul_assoc, mul_comm, suc-mul, zero-mul, mul-le-mul_right, mul-lt-mul_of_pos_right}
 use native.Mathlib.Omega.{arith}
 use lib.IntN.{pos, neg_ℤ}
 use Rattle.integers.proofs.Naturals.{<_pos, pos_injective, pos-<}
 use Rattle.integers.proofs.Ring.{neg-*ℤ}
 use Rattle.fractions.specs.Order.{order}
 use Rattle.fractions.specs.Fraction.{ratio_order}
-use Rattle.fractions.specs.declared.Order.{Order}
-use Rattle.fractions.specs.declared.Order.TheVariants.{Less, Greater}
+use Rattle.std.specs.declared.cmp.Ordering.{Ordering}
+use Rattle.std.specs.declared.cmp.Ordering.TheVariants.{Less, Greater}
 use Rattle.fractions.proofs.Orders.{Answer, is_less_lem, is_equal_lem, is_greater, answer, order_negated, nat_less, nat_equal, nat_greater}
 use Rattle.fractions.proofs.Ratios.{order_scaled}
 
@@ -17,7 +17,7 @@ use Rattle.fractions.proofs.Ratios.{order_scaled}
 level : (x y u v : ℕ) → x + u ≡ y + v → order (pos x) (pos y) ≡ order (pos v) (pos u)
 level x y u v e = go (answer (pos x) (pos y))
   where
-    go : {o : Order} → Answer (pos x) (pos y) o → o ≡ order (pos v) (pos u)
+    go : {o : Ordering} → Answer (pos x) (pos y) o → o ≡ order (pos v) (pos u)
     go (is_less_lem h) = let k = <_pos h in nat_less (omega arith)
     go (is_equal_lem h) = let k = pos_injective h in nat_equal (omega arith)
     go (is_greater h) = let k = <_pos h in nat_greater (omega arith)
@@ -43,13 +43,13 @@ turn_over : (s d t e : ℕ) → ratio_order (pos e) t (pos d) s ≡ ratio_order 
 unfolding ratio_order
 turn_over s d t e = ap₂ (λ (j k : ℕ). order (pos j) (pos k)) (mul_comm e s) (mul_comm d t)
 
-none_left : (d t e : ℕ) → 0 < d → order (pos 0) (pos t) ≡ ratio_order (pos 0) d (pos t) e
+nothing_less : (t d e : ℕ) → 0 < d → order (pos 0) (pos t) ≡ ratio_order (pos 0) d (pos t) e
 unfolding ratio_order
-none_left d t e h = order_scaled (pos 0) (pos t) (pos d) (pos-< h) ∙ rw (zero-mul d, zero-mul e)
+nothing_less t d e h = order_scaled (pos 0) (pos t) (pos d) (pos-< h) ∙ rw (zero-mul d, zero-mul e)
 
-some_left : (s d e : ℕ) → 0 < s → 0 < e → Greater ≡ ratio_order (pos s) d (pos 0) e
+nothing_more : (s d e : ℕ) → 0 < e → order (pos s) (pos 0) ≡ ratio_order (pos s) d (pos 0) e
 unfolding ratio_order
-some_left s d e h k = nat_greater (rw zero-mul (mul-pos h k))
+nothing_more s d e h = order_scaled (pos s) (pos 0) (pos e) (pos-< h) ∙ rw (zero-mul d, zero-mul e)
 
 module _ (n d m e : ℕ) (hd : 0 < d) (he : 0 < e) where
   pub whole_less : n / d < m / e → Less ≡ ratio_order (pos n) d (pos m) e
@@ -65,6 +65,14 @@ module _ (n d m e : ℕ) (hd : 0 < d) (he : 0 < e) where
       let k : m * d < n * e = rw (parts n d e, parts' m d e) (over (m / e) (n / d) (d * e) (m % e * d) (n % d * e) h l) in
       nat_greater k
 
+  pub whole_apart : (n / d ≡ m / e → ⊥) → order (pos (n / d)) (pos (m / e)) ≡ ratio_order (pos n) d (pos m) e
+  whole_apart h = go (answer (pos (n / d)) (pos (m / e)))
+    where
+      go : {o : Ordering} → Answer (pos (n / d)) (pos (m / e)) o → o ≡ ratio_order (pos n) d (pos m) e
+      go (is_less_lem k) = whole_less (<_pos k)
+      go (is_equal_lem k) = absurd (h (pos_injective k))
+      go (is_greater k) = whole_more (<_pos k)
+
   -- the whole parts are the same: what is left decides
   pub left_over : n / d ≡ m / e → ratio_order (pos (n % d)) d (pos (m % e)) e ≡ ratio_order (pos n) d (pos m) e
   unfolding ratio_order
@@ -72,12 +80,12 @@ module _ (n d m e : ℕ) (hd : 0 < d) (he : 0 < e) where
       sym (level (n * e) (m * d) (m % e * d) (n % d * e) (rw (parts n d e, parts' m d e, h) (omega arith)))
 
   -- nothing is left of the first
-  pub first_whole : n / d ≡ m / e → n % d ≡ 0 → order (pos 0) (pos (m % e)) ≡ ratio_order (pos n) d (pos m) e
-  first_whole h i = none_left d (m % e) e hd ∙ ap (λ (k : ℕ). ratio_order (pos k) d (pos (m % e)) e) (sym i) ∙ left_over h
+  pub first_whole : n / d ≡ m / e → n % d ≡ 0 → order (pos (n % d)) (pos (m % e)) ≡ ratio_order (pos n) d (pos m) e
+  first_whole h i = rw (← i) at (nothing_less (m % e) d e hd) ∙ left_over h
 
-  -- nothing is left of the second alone
-  pub second_whole : n / d ≡ m / e → 0 < n % d → m % e ≡ 0 → Greater ≡ ratio_order (pos n) d (pos m) e
-  second_whole h k i = some_left (n % d) d e k he ∙ ap (λ (k : ℕ). ratio_order (pos (n % d)) d (pos k) e) (sym i) ∙ left_over h
+  -- nothing is left of the second
+  pub second_whole : n / d ≡ m / e → m % e ≡ 0 → order (pos (n % d)) (pos (m % e)) ≡ ratio_order (pos n) d (pos m) e
+  second_whole h i = rw (← i) at (nothing_more (n % d) d e he) ∙ left_over h
 
   pub turned_over : n / d ≡ m / e → ratio_order (pos e) (m % e) (pos d) (n % d) ≡ ratio_order (pos n) d (pos m) e
   turned_over h = turn_over (n % d) d (m % e) e ∙ left_over h
@@ -98,19 +106,27 @@ module _ (n d m e p s q t : ℕ) (hd : 0 < d) (he : 0 < e) (i : p * d ≡ n + s)
   second : m * d + t * d ≡ q * (d * e)
   second = sym (add-mul m t d) ∙ ap (λ (k : ℕ). k * d) (sym j) ∙ mul_assoc q e d ∙ ap (λ (k : ℕ). q * k) (mul_comm e d)
 
-  pub floor_less : s < d → q < p → Less ≡ ratio_order (neg_ℤ (pos n)) d (neg_ℤ (pos m)) e
+  floor_less : s < d → q < p → Less ≡ ratio_order (neg_ℤ (pos n)) d (neg_ℤ (pos m)) e
   unfolding ratio_order
   floor_less hs h =
       let k : s * e < d * e = mul-lt-mul_of_pos_right hs he in
       let l : m * d < n * e = omega (arith, first, second, mul-le-mul_right {m = suc q} {n = p} (d * e) h, suc-mul q (d * e)) in
       nat_less l ∙ negated n d m e
 
-  pub floor_more : t < e → p < q → Greater ≡ ratio_order (neg_ℤ (pos n)) d (neg_ℤ (pos m)) e
+  floor_more : t < e → p < q → Greater ≡ ratio_order (neg_ℤ (pos n)) d (neg_ℤ (pos m)) e
   unfolding ratio_order
   floor_more ht h =
       let k : t * d < d * e = rw (mul_comm e d) at (mul-lt-mul_of_pos_right ht hd) in
       let l : n * e < m * d = omega (arith, first, second, mul-le-mul_right {m = suc p} {n = q} (d * e) h, suc-mul p (d * e)) in
       nat_greater l ∙ negated n d m e
+
+  pub floor_apart : s < d → t < e → (p ≡ q → ⊥) → order (pos q) (pos p) ≡ ratio_order (neg_ℤ (pos n)) d (neg_ℤ (pos m)) e
+  floor_apart hs ht h = go (answer (pos q) (pos p))
+    where
+      go : {o : Ordering} → Answer (pos q) (pos p) o → o ≡ ratio_order (neg_ℤ (pos n)) d (neg_ℤ (pos m)) e
+      go (is_less_lem k) = floor_less hs (<_pos k)
+      go (is_equal_lem k) = absurd (h (sym (pos_injective k)))
+      go (is_greater k) = floor_more ht (<_pos k)
 
   pub floor_over : p ≡ q → ratio_order (pos s) d (pos t) e ≡ ratio_order (neg_ℤ (pos n)) d (neg_ℤ (pos m)) e
   unfolding ratio_order

@@ -5,7 +5,7 @@ use Rattle.fractions.specs.Fraction.{ratio_order}
 use Rattle.fractions.specs.Turns.{lines_of, last_says, fib}
 use Rattle.fractions.specs.Divisor.{Greatest, gcd_of}
 use Rattle.fractions.specs.Point.{Lowest, Bounded, point_order, lowest_of, whole_of}
-use Rattle.fractions.specs.declared.Order.TheVariants.{Less, Equal}
+use Rattle.std.specs.declared.cmp.Ordering.TheVariants.{Less, Equal}
 use Rattle.fractions.specs.declared.Point.{Point}
 
 -- the greatest common divisor divides both numbers, and every number that does divides it

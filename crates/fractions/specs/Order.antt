@@ -1,21 +1,18 @@
 -- Less, Equal, Greater: what each says of two whole numbers.
 use Rattle.std.specs.Prelude.{ℤ}
 use Rattle.integers.specs.Order.{three}
-use Rattle.fractions.specs.declared.Order.{Order}
-use Rattle.fractions.specs.declared.Order.TheVariants.{Less, Equal, Greater}
+use Rattle.std.specs.Ordering.{ordering_reverse, ordering_then}
+use Rattle.std.specs.declared.cmp.Ordering.{Ordering}
+use Rattle.std.specs.declared.cmp.Ordering.TheVariants.{Less, Equal, Greater}
 
 -- Less where a is below b, Greater where b is below a
-unfoldable pub order : ℤ → ℤ → Order
+unfoldable pub order : ℤ → ℤ → Ordering
 order a b = three Less Equal Greater a b
 
 -- seen from the other side
-abbrev pub turned : Order → Order
-turned Less = Greater
-turned Equal = Equal
-turned Greater = Less
+abbrev pub turned : Ordering → Ordering
+turned = ordering_reverse
 
 -- the second answer where the first is Equal
-abbrev pub and_then : Order → Order → Order
-and_then Less o = Less
-and_then Equal o = o
-and_then Greater o = Greater
+abbrev pub and_then : Ordering → Ordering → Ordering
+and_then = ordering_then

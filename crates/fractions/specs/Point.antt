@@ -5,7 +5,7 @@ use Rattle.std.specs.Int.Signed.{quot_z}
 use Rattle.fractions.specs.Order.{and_then}
 use Rattle.fractions.specs.Fraction.{ratio_order}
 use Rattle.fractions.specs.Divisor.{gcd_of}
-use Rattle.fractions.specs.declared.Order.{Order}
+use Rattle.std.specs.declared.cmp.Ordering.{Ordering}
 use Rattle.fractions.specs.declared.Point.{Point}
 
 -- "A point is X, Y, D, D positive, with no common divisor above 1"
@@ -20,7 +20,7 @@ pub record Bounded (p : Point) : Type 0 where
   pub y_small : nat_abs p.y < 2 ^ 48
 
 -- "Points are ordered by x, then y."
-unfoldable pub point_order : Point → Point → Order
+unfoldable pub point_order : Point → Point → Ordering
 point_order p q =
     and_then (ratio_order p.x p.d q.x q.d) (ratio_order p.y p.d q.y q.d)
 

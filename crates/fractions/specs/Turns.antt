@@ -1,8 +1,8 @@
 -- Two fractions compared with pencil and paper, each line of the paper written out, and how many lines there are.
 use Rattle.std.specs.Prelude.{Bool, false, cond, List, [], ◌∷◌, ℕ, zero, suc, ◌+◌, ◌/◌, ◌%◌, eqb, ltb, pos}
 use Rattle.fractions.specs.Order.{order, and_then}
-use Rattle.fractions.specs.declared.Order.{Order}
-use Rattle.fractions.specs.declared.Order.TheVariants.{Equal}
+use Rattle.std.specs.declared.cmp.Ordering.{Ordering}
+use Rattle.std.specs.declared.cmp.Ordering.TheVariants.{Equal}
 
 -- two divisions side by side: of the first fraction the whole part and what is left, then of the second
 pub record Line : Type 0 where
@@ -28,10 +28,10 @@ unfoldable pub lines_of : ℕ → ℕ → ℕ → ℕ → List Line
 lines_of n d m e = lines_in (d + e) n d m e
 
 -- the last line decides: by the whole parts, else by what is left
-abbrev pub decided : Line → Order
+abbrev pub decided : Line → Ordering
 decided l = and_then (order (pos l.whole) (pos l.whole')) (order (pos l.left) (pos l.left'))
 
-unfoldable pub last_says : List Line → Order
+unfoldable pub last_says : List Line → Ordering
 last_says [] = Equal
 last_says (l ∷ []) = decided l
 last_says (l ∷ k ∷ ls) = last_says (k ∷ ls)

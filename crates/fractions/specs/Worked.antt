@@ -2,7 +2,7 @@
 use Rattle.std.specs.Prelude.{◌≡◌, [], ◌∷◌, ℕ, pos, negsuc, length}
 use Rattle.fractions.specs.Fraction.{ratio_order}
 use Rattle.fractions.specs.Turns.{Line, lines_of, fib}
-use Rattle.fractions.specs.declared.Order.TheVariants.{Less, Greater}
+use Rattle.std.specs.declared.cmp.Ordering.TheVariants.{Less, Greater}
 
 -- a whole part and what is left, of the first fraction and of the second
 abbrev pub line : ℕ → ℕ → ℕ → ℕ → Line

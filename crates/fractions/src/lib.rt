@@ -2,14 +2,6 @@
 // whole_parts, comparison and lowest_terms.
 #![tactic(auto)]
 
-// Which of two is less.
-#[derive(Clone, Copy)]
-pub enum Order {
-    Less,
-    Equal,
-    Greater,
-}
-
 // A fraction by sign and size: `over` above the line, below 0 where `negative`, and `under` below it.
 #[derive(Clone, Copy)]
 pub struct Fraction {

@@ -1,4 +1,4 @@
--- Places in a list by a test on its members: found by bisection, or one by one from a place on.
+-- Places in a list by a test on its members, found by bisection; and what place these tell.
 use mathlib.Core.Path.{◌≡◌}
 use mathlib.Core.Logic.{⊎_elim}
 use mathlib.Core.Bool.{Bool, true, false}
@@ -29,24 +29,6 @@ module _ (f : ℕ → Bool) (l : List ℕ) where
   pub edge : (live lo : ℕ) → lo ≤ live → Between live lo lo → Edge f l live lo
   edge live lo h B = record { within = h; last_in = B.last_in; first_out = B.first_out }
 
-  -- all members from a up to b pass
-  abbrev pub All : ℕ → ℕ → Type 0
-  All a b = (i : ℕ) → a ≤ i → i < b → f (get_or l i 0) ≡ true
-
-  pub all_none : (a : ℕ) → All a a
-  all_none a i h g = absurd (omega arith)
-
-  at : (k i : ℕ) → k ≡ i → f (get_or l k 0) ≡ true → f (get_or l i 0) ≡ true
-  at k i e h = rw (← e) h
-
-  pub one_below : (k b : ℕ) → 0 < k → f (get_or l (k - 1) 0) ≡ true → All k b → All (k - 1) b
-  one_below k b h e A i g j =
-      ⊎_elim (λ (t : ltb i k ≡ true). at (k - 1) i (omega (arith, ltb-true i k t)) e) (λ (t : ltb i k ≡ false). A i (ltb-false i k t) j) (ask (ltb i k))
-
-  pub one_above : (a k : ℕ) → f (get_or l k 0) ≡ true → All a k → All a (k + 1)
-  one_above a k e A i g j =
-      ⊎_elim (λ (t : ltb i k ≡ true). A i g (ltb-true i k t)) (λ (t : ltb i k ≡ false). at k i (omega (arith, ltb-false i k t)) e) (ask (ltb i k))
-
   -- ---- the place that these tell, where a list is known to pass from lo up to hi, or up to lo, and nowhere else
 
   pub edge_is : (live lo r : ℕ) → lo ≤ live → ((i : ℕ) → i < lo → f (get_or l i 0) ≡ true) → ((i : ℕ) → lo ≤ i → i < live → f (get_or l i 0) ≡ false) → Edge f l live r → r ≡ lo
@@ -60,7 +42,7 @@ module _ (f : ℕ → Bool) (l : List ℕ) where
       (ask (ltb lo r)))
       (ask (ltb r lo))
 
-  module _ (live lo hi from : ℕ) (begun : lo ≤ from) (ended : from ≤ hi) (through : All lo hi) where
+  module _ (live lo hi from : ℕ) (begun : lo ≤ from) (ended : from ≤ hi) (through : (i : ℕ) → lo ≤ i → i < hi → f (get_or l i 0) ≡ true) where
     pub down_is : ((i : ℕ) → i < lo → f (get_or l i 0) ≡ false) → (r : ℕ) → Down f l from r → r ≡ lo
     down_is front r D =
         ⊎_elim

@@ -10,8 +10,8 @@ use borrow.Author.Tests.{ltb-true, ltb-false}
 use lib.Dec.{ltb}
 use lib.IntN.{ℤ}
 use lib.ListN.{get_or}
-use Rattle.fractions.specs.declared.Order.TheVariants.{Less, Equal, Greater}
-use Rattle.fractions.specs.declared.Order.{Order}
+use Rattle.std.specs.declared.cmp.Ordering.TheVariants.{Less, Equal, Greater}
+use Rattle.std.specs.declared.cmp.Ordering.{Ordering}
 use Rattle.fractions.specs.declared.Point.{Point}
 use Rattle.sweep.specs.Lists.{Pair, lesser_first}
 use Rattle.sweep.specs.Chart.{crosses, kind, at}
@@ -58,7 +58,7 @@ module _ {n : ℕ} {table : List ℤ} {m : ℕ} {active lanes : List ℕ} {live 
       at_run : aside p (piece_in table (get_or (s W).active k 0)) ≡ Equal
       at_run = ap (λ (i : ℕ). aside p (piece_in table i)) (sym (piece_at' W k h)) ∙ on
 
-      which_order : Order → ℕ
+      which_order : Ordering → ℕ
       which_order Less = 0
       which_order Equal = 1
       which_order Greater = 2

@@ -7,7 +7,6 @@ ghost use Rattle.fractions.specs.declared.Point.{Point};
 ghost use Rattle.full_points.specs.Spot.{Fair, Marks};
 ghost use Rattle.full_active.specs.Parts.{below_in, through_in, starts_in, finishes_in, Edge, Down, Up};
 
-use fractions::Order;
 use full_points::{Spot, aside, is_at};
 use ported_pieces::piece;
 
@@ -15,22 +14,14 @@ fn is_below(table: &[i16], i: u8, p: Spot) -> bool
     requires { Fair p }
     ensures { (q : Point) → Marks p q → result ≡ below_in table.now q i }
 {
-    match aside(piece(table, i as u16), p) {
-        Order::Less => false,
-        Order::Equal => false,
-        Order::Greater => true,
-    }
+    aside(piece(table, i as u16), p).is_gt()
 }
 
 fn is_through(table: &[i16], i: u8, p: Spot) -> bool
     requires { Fair p }
     ensures { (q : Point) → Marks p q → result ≡ through_in table.now q i }
 {
-    match aside(piece(table, i as u16), p) {
-        Order::Less => false,
-        Order::Equal => true,
-        Order::Greater => false,
-    }
+    aside(piece(table, i as u16), p).is_eq()
 }
 
 pub fn starts(table: &[i16], i: u8, p: Spot) -> bool
@@ -56,6 +47,7 @@ pub fn search(table: &[i16], active: &[u8], live: usize, p: Spot) -> usize
     requires { Fair p × (live ≤ length active.now) }
     ensures { (q : Point) → Marks p q → Edge (below_in table.now q) active.now live result }
 {
+    // by hand: the library's partition_point promises nothing of a list not known to come in two parts
     let mut lo = 0;
     let mut hi = live;
     while lo < hi {
@@ -74,14 +66,8 @@ pub fn widen_down(table: &[i16], active: &[u8], p: Spot, from: usize) -> usize
     requires { Fair p × (from ≤ length active.now) }
     ensures { (q : Point) → Marks p q → Down (through_in table.now q) active.now from result }
 {
-    let mut k = from;
-    while 0 < k {
-        if !is_through(table, active[k - 1], p) {
-            break;
-        }
-        k -= 1;
-    }
-    k
+    let in_front = active[..from].iter().rev();
+    from - in_front.take_while(|i| is_through(table, **i, p)).count()
 }
 
 // The place where those end that stand from `from` on.
@@ -89,12 +75,6 @@ pub fn widen_up(table: &[i16], active: &[u8], live: usize, p: Spot, from: usize)
     requires { Fair p × (live ≤ length active.now) × (from ≤ live) }
     ensures { (q : Point) → Marks p q → Up (through_in table.now q) active.now live from result }
 {
-    let mut k = from;
-    while k < live {
-        if !is_through(table, active[k], p) {
-            break;
-        }
-        k += 1;
-    }
-    k
+    let behind = active[from..live].iter();
+    from + behind.take_while(|i| is_through(table, **i, p)).count()
 }

@@ -9,7 +9,7 @@ ghost use Rattle.ported_pieces.specs.Table.{piece_in};
 ghost use Rattle.full_points.specs.Spot.{ChartPoint, key_of};
 ghost use Rattle.full_lanes.specs.Lanes.{no_key, keyed, lane_in, steeper, lane_by_slope, examined, ProperPlaces};
 
-use fractions::{Order, Point};
+use fractions::Point;
 use full_lanes::NONE;
 use full_points::key_of;
 use line_segment::Meeting;
@@ -44,11 +44,7 @@ fn lane_between(table: &[i16], i: u8, j: u8, p: Point) -> u32
 fn is_steeper(table: &[i16], i: u8, j: u8) -> bool
     ensures { result ≡ steeper table.now i j }
 {
-    match slope_order(piece(table, i as u16), piece(table, j as u16)) {
-        Order::Less => false,
-        Order::Equal => false,
-        Order::Greater => true,
-    }
+    slope_order(piece(table, i as u16), piece(table, j as u16)).is_gt()
 }
 
 // The key of the lane of i and j beyond p, i in front of j. Where i is not the steeper, they do not cross there.

@@ -11,8 +11,8 @@ use lib.IntN.{ℤ}
 use lib.ListN.{get_or}
 use Rattle.fractions.specs.Order.{turned}
 use Rattle.fractions.specs.Point.{point_order}
-use Rattle.fractions.specs.declared.Order.{Order}
-use Rattle.fractions.specs.declared.Order.TheVariants.{Less, Equal, Greater}
+use Rattle.std.specs.declared.cmp.Ordering.{Ordering}
+use Rattle.std.specs.declared.cmp.Ordering.TheVariants.{Less, Equal, Greater}
 use Rattle.fractions.specs.declared.Point.{Point}
 use Rattle.fractions.proofs.Points.{left, placed, point_itself, point_turned, less_at_most}
 use Rattle.sweep.specs.Ported.{is_less}
@@ -51,12 +51,12 @@ left_by_x p q hp hq h = placed (left (key_less p q hp hq h))
 pub not_less_trans : (p q r : Point) → 0 < p.d → 0 < q.d → 0 < r.d → is_less (point_order p q) ≡ false → is_less (point_order q r) ≡ false → is_less (point_order p r) ≡ false
 not_less_trans p q r hp hq hr e f = go (point_order p r) refl
   where
-    at_most : (o : Order) → is_less o ≡ false → ¬ (turned o ≡ Greater)
+    at_most : (o : Ordering) → is_less o ≡ false → ¬ (turned o ≡ Greater)
     at_most Less e g = no_less e
     at_most Equal e g = absurd (let z : ◌≡◌ {A = ℕ} 0 1 = cc in omega arith)
     at_most Greater e g = absurd (let z : ◌≡◌ {A = ℕ} 0 1 = cc in omega arith)
 
-    go : (o : Order) → point_order p r ≡ o → is_less o ≡ false
+    go : (o : Ordering) → point_order p r ≡ o → is_less o ≡ false
     go Less g = no_less (ap is_less (sym (less_at_most p r q hp hr hq g (λ k. at_most (point_order q r) f (sym (point_turned q r) ∙ k)))) ∙ e)
     go Equal g = refl
     go Greater g = refl
@@ -85,7 +85,7 @@ module _ (table : List ℤ) (active : List ℕ) (live k key at least : ℕ)
     leave = λ y _. (omega arith, sym e ∙ y);
   }
     where
-      less_is : (o : Order) → is_less o ≡ true → o ≡ Less
+      less_is : (o : Ordering) → is_less o ≡ true → o ≡ Less
       less_is Less y = refl
       less_is Equal y = no_less (sym y)
       less_is Greater y = no_less (sym y)

@@ -5,8 +5,8 @@ use mathlib.Core.List.{List, [], ◌∷◌, ◌++◌, map}
 use Prim.Native.Nat.{ℕ, suc, ◌+◌, ◌≤◌, ◌<◌}
 use native.Mathlib.Omega.{arith}
 use native.Mathlib.Numerals.{add-one}
-use lib.ListN.{length, get_or, set, length-append}
-use lib.Seq.{sets, slice, slice-cons, slice_empty}
+use lib.ListN.{length, get_or, set, drop, length-append, drop_of_length-le}
+use lib.Seq.{sets, drop-cons}
 use Rattle.sweep.specs.Lists.{Pair, keep, pairs}
 use Rattle.sweep.proofs.Lists.{keep_append, keep_yes, keep_no}
 use Rattle.charts.proofs.Stores.{sets_append}
@@ -61,26 +61,27 @@ pair_written a b e lent end =
     (rest_end l lent end _ _ (rest_write l lent end lent end (a, b) [] (rest_start l lent end)))
 
 -- ---- what is left of a row, and of all rows
-module _ (f : Pair → Bool) (l : List ℕ) (k count : ℕ) (inside : k < count) (within : count ≤ length l) where
-  next : slice k count l ≡ get_or l k 0 ∷ slice (k + 1) count l
-  next = rw add-one (slice-cons k count l 0 inside within)
+module _ (f : Pair → Bool) (l : List ℕ) (k : ℕ) (inside : k < length l) where
+  next : drop k l ≡ get_or l k 0 ∷ drop (k + 1) l
+  next = rw add-one (drop-cons l k 0 inside)
 
-  pub row_more : (i : ℕ) → f (i, get_or l k 0) ≡ true → keep f (partners i (slice k count l)) ≡ (i, get_or l k 0) ∷ keep f (partners i (slice (k + 1) count l))
+  pub row_more : (i : ℕ) → f (i, get_or l k 0) ≡ true → keep f (partners i (drop k l)) ≡ (i, get_or l k 0) ∷ keep f (partners i (drop (k + 1) l))
   unfolding partners
-  row_more i e = ap (λ (z : List ℕ). keep f (map (λ j. (i, j)) z)) next ∙ keep_yes f (i, get_or l k 0) (map (λ j. (i, j)) (slice (k + 1) count l)) e
+  row_more i e = ap (λ (z : List ℕ). keep f (map (λ j. (i, j)) z)) next ∙ keep_yes f (i, get_or l k 0) (map (λ j. (i, j)) (drop (k + 1) l)) e
 
-  pub row_same : (i : ℕ) → f (i, get_or l k 0) ≡ false → keep f (partners i (slice k count l)) ≡ keep f (partners i (slice (k + 1) count l))
+  pub row_same : (i : ℕ) → f (i, get_or l k 0) ≡ false → keep f (partners i (drop k l)) ≡ keep f (partners i (drop (k + 1) l))
   unfolding partners
-  row_same i e = ap (λ (z : List ℕ). keep f (map (λ j. (i, j)) z)) next ∙ keep_no f (i, get_or l k 0) (map (λ j. (i, j)) (slice (k + 1) count l)) e
+  row_same i e = ap (λ (z : List ℕ). keep f (map (λ j. (i, j)) z)) next ∙ keep_no f (i, get_or l k 0) (map (λ j. (i, j)) (drop (k + 1) l)) e
 
-  pub rows_more : keep f (pairs (slice k count l)) ≡ keep f (partners (get_or l k 0) (slice (k + 1) count l)) ++ keep f (pairs (slice (k + 1) count l))
-  unfolding partners pairs
-  rows_more = ap (λ (z : List ℕ). keep f (pairs z)) next ∙ keep_append f (map (λ j. (get_or l k 0, j)) (slice (k + 1) count l)) (pairs (slice (k + 1) count l))
-
-pub row_over : (f : Pair → Bool) (l : List ℕ) (i count : ℕ) → keep f (partners i (slice count count l)) ≡ []
+pub row_over : (f : Pair → Bool) (l : List ℕ) (i k : ℕ) → length l ≤ k → keep f (partners i (drop k l)) ≡ []
 unfolding partners keep
-row_over f l i count = rw (slice_empty count l)
+row_over f l i k h = rw (drop_of_length-le l {i = k} h)
 
-pub rows_over : (f : Pair → Bool) (l : List ℕ) (count : ℕ) → keep f (pairs (slice count count l)) ≡ []
+pub rows_more : (f : Pair → Bool) (i : ℕ) (l : List ℕ) → keep f (pairs (i ∷ l)) ≡ keep f (partners i l) ++ keep f (pairs l)
+unfolding partners pairs
+rows_more f i l = keep_append f (map (λ j. (i, j)) l) (pairs l)
+
+pub rows_over : (f : Pair → Bool) (l : List ℕ) → length l ≡ 0 → keep f (pairs l) ≡ []
 unfolding pairs keep
-rows_over f l count = rw (slice_empty count l)
+rows_over f [] h = refl
+rows_over f (x ∷ l) h = absurd (omega arith)

@@ -2,8 +2,7 @@
 // point and nowhere else, and an overlap is new where one of its two pieces starts.
 #![tactic(auto)]
 
-ghost use Rattle.std.specs.Prelude.{◌≡◌, [], ◌∷◌, ◌++◌, ℕ, ◌+◌, ◌≤◌, ◌<◌, length, get_or, take};
-ghost use Rattle.std.proofs.Math.Seq.{slice};
+ghost use Rattle.std.specs.Prelude.{◌≡◌, [], ◌∷◌, ◌+◌, ◌≤◌, length, take};
 ghost use Rattle.fractions.specs.declared.Point.{Point};
 ghost use Rattle.sweep.specs.Lists.{keep, pairs, lesser_first};
 ghost use Rattle.full_points.specs.Spot.{Fair, Marks};
@@ -47,26 +46,16 @@ pub fn list_pair(i: u8, j: u8, bytes: &mut [u8], end: usize) -> usize
     end + 2
 }
 
-// The new pairs of the piece at place a with those behind it; where the list ends now.
-fn list_row(
-    table: &[i16],
-    p: Spot,
-    here: &[u8],
-    a: usize,
-    count: usize,
-    bytes: &mut [u8],
-    end: usize,
-) -> usize
-    requires { Fair p × (a < count) × (count ≤ length here.now) × Roomy table.now p (partners (get_or here.now a 0) (slice (a + 1) count here.now)) bytes.old end }
-    ensures { (q : Point) → Marks p q → Listed (keep (fresh_in table.now q) (partners (get_or here.now a 0) (slice (a + 1) count here.now))) bytes.old end bytes.new result }
+// The new pairs of piece i with those behind it; where the list ends now.
+fn list_row(table: &[i16], p: Spot, i: u8, behind: &[u8], bytes: &mut [u8], end: usize) -> usize
+    requires { Fair p × Roomy table.now p (partners i behind.now) bytes.old end }
+    ensures { (q : Point) → Marks p q → Listed (keep (fresh_in table.now q) (partners i behind.now)) bytes.old end bytes.new result }
 {
-    let i = here[a];
     let mut at = end;
-    for b in a + 1..count {
-        let j = here[b];
-        if is_fresh(table, p, i, j) {
+    for j in behind {
+        if is_fresh(table, p, i, *j) {
             bytes[at] = i;
-            bytes[at + 1] = j;
+            bytes[at + 1] = *j;
             at += 2;
         }
     }
@@ -86,8 +75,10 @@ pub fn list_all(
     ensures { (q : Point) → Marks p q → Listed (keep (fresh_in table.now q) (pairs (take count here.now))) bytes.old end bytes.new result }
 {
     let mut at = end;
-    for a in 0..count {
-        at = list_row(table, p, here, a, count, bytes, at);
+    let mut rest = &here[..count];
+    while let Some((i, behind)) = rest.split_first() {
+        at = list_row(table, p, *i, behind, bytes, at);
+        rest = behind;
     }
     at
 }

@@ -28,6 +28,7 @@ fn go(
     let mut end = 0;
     let mut steps: u32 = 0;
     let mut last = Point { x: 0, y: 0, d: 1 };
+    // the steps are counted for the answer and index nothing, and how many there are is seen only as they go
     while steps < budget {
         if ends.len() <= passed {
             break;

@@ -13,8 +13,8 @@ use Rattle.integers.proofs.Factors.{m/p, zero_product}
 use Rattle.integers.proofs.Lines.{stays_above}
 use Rattle.integers.proofs.Naturals.{pos-<}
 use Rattle.fractions.specs.Point.{point_order, lowest_of}
-use Rattle.fractions.specs.declared.Order.{Order}
-use Rattle.fractions.specs.declared.Order.TheVariants.{Less, Greater}
+use Rattle.std.specs.declared.cmp.Ordering.{Ordering}
+use Rattle.std.specs.declared.cmp.Ordering.TheVariants.{Less, Greater}
 use Rattle.fractions.specs.declared.Point.{Point}
 use Rattle.fractions.proofs.Orders.{order_greater}
 use Rattle.fractions.proofs.Points.{Places, left, below, above, right, places}
@@ -46,7 +46,7 @@ flat a b z = rw z (none _)
     none : (g : ℕ) → 0 / g ≡ 0
     none g = omega (arith, div-le_self 0 g)
 
-module _ (a b : LineSegment) (la : HasLength a) (lb : HasLength b) (p : Point) (dp : 0 < p.d) (r : Order) (h : Finer p a b r)
+module _ (a b : LineSegment) (la : HasLength a) (lb : HasLength b) (p : Point) (dp : 0 < p.d) (r : Ordering) (h : Finer p a b r)
     (b_from : ¬ (point_order (point_of b.min) p ≡ Greater))
     (cross : intersect_of a b ≡ Crossing) (beyond : point_order p (crossing_of a b) ≡ Less) where
   abbrev c : Point
@@ -92,7 +92,7 @@ module _ (a b : LineSegment) (la : HasLength a) (lb : HasLength b) (p : Point) (
           (zero_product (gap a b p) (pos c.d)
           (same_gap (level a b) (tilt a b) p.x (pos p.d) c.x (pos c.d) e ∙ ap (λ (z : ℤ). z *ℤ pos p.d) g ∙ zero_times (pos p.d)))
 
-      go : {o : Order} → Tri (tilt a b) (pos 0) → Places p c o → o ≡ Less → tilt a b <ℤ pos 0
+      go : {o : Ordering} → Tri (tilt a b) (pos 0) → Places p c o → o ≡ Less → tilt a b <ℤ pos 0
       go (less t) q f = t
       go (same t) q f = absurd (tilted t)
       go (more t) (left w) f =
@@ -106,7 +106,7 @@ module _ (a b : LineSegment) (la : HasLength a) (lb : HasLength b) (p : Point) (
   steeper = go (leads a la) (leads b lb)
     where
       -- b upright, through c: c is at p's x, and p is not below a
-      stands : pos 0 <ℤ run a → run b ≡ pos 0 → pos 0 <ℤ rise b → {o : Order} → Places p c o → o ≡ Less → ⊥
+      stands : pos 0 <ℤ run a → run b ≡ pos 0 → pos 0 <ℤ rise b → {o : Ordering} → Places p c o → o ≡ Less → ⊥
       stands ha eb rb (left w) f = <→≢ (west_sloped b p c dp dc b_from b_upto w (upward eb rb)) (sym eb)
       stands ha eb rb (below e up) f = clash_ℤ (under_a e up ha) (before.over ha eb)
       stands ha eb rb (even e s) f = never refl f (omega arith)

@@ -10,7 +10,7 @@ use Rattle.fractions.specs.Order.{order}
 use Rattle.fractions.specs.Fraction.{ratio_order}
 use Rattle.fractions.specs.Divisor.{euclid, gcd_of}
 use Rattle.fractions.specs.Point.{point_order, common, lowest_of, whole_of}
-use Rattle.fractions.specs.declared.Order.TheVariants.{Less, Greater}
+use Rattle.std.specs.declared.cmp.Ordering.TheVariants.{Less, Greater}
 use Rattle.orientation.specs.Turn.{det, turn_of}
 use Rattle.line_segment.specs.declared.LineSegment.{LineSegment}
 use Rattle.line_segment.specs.Piece.{point_of, end_order, first_included, second_included, join_by, join_of, piece_of}

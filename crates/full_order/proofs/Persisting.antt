@@ -16,8 +16,8 @@ use Rattle.integers.proofs.Ratios.{ratio-<-≤_trans}
 use Rattle.integers.proofs.Naturals.{pos-<}
 use Rattle.fractions.specs.Order.{and_then}
 use Rattle.fractions.specs.Point.{point_order}
-use Rattle.fractions.specs.declared.Order.{Order}
-use Rattle.fractions.specs.declared.Order.TheVariants.{Less, Greater}
+use Rattle.std.specs.declared.cmp.Ordering.{Ordering}
+use Rattle.std.specs.declared.cmp.Ordering.TheVariants.{Less, Greater}
 use Rattle.fractions.specs.declared.Point.{Point}
 use Rattle.fractions.proofs.Orders.{order_less, order_equal}
 use Rattle.fractions.proofs.Points.{Places, left, below, above, right, places, placed, at_most_less}
@@ -40,7 +40,7 @@ use Rattle.sweep_geometry.proofs.Turning.{CrossIn, cross_in, meet_x, meet_above,
 use Rattle.full_order.specs.Finer.{slant_order}
 use Rattle.full_order.proofs.Slants.{Finer, finer_precedes, finer_behind, also_on, rising, falling, level_slant}
 
-pub record Stays (p : Point) (a b : LineSegment) (r : Order) : Type 0 where
+pub record Stays (p : Point) (a b : LineSegment) (r : Ordering) : Type 0 where
   pub below : side a p <ℤ pos 0 → side b p <ℤ pos 0
   pub above : pos 0 <ℤ side b p → pos 0 <ℤ side a p
   pub ordered : ¬ ((side a p ≡ pos 0) × (side b p ≡ pos 0)) → Finer p a b r
@@ -61,7 +61,7 @@ level_gap l t X D X' D' nz e f =
 module _ (a b : LineSegment) (la : HasLength a) (lb : HasLength b) (l p : Point) (dl : 0 < l.d) (dp : 0 < p.d)
     (af : ¬ (point_order (point_of a.min) l ≡ Greater)) (bf : ¬ (point_order (point_of b.min) l ≡ Greater))
     (au : ¬ (point_order p (point_of a.max) ≡ Greater)) (bu : ¬ (point_order p (point_of b.max) ≡ Greater))
-    (r : Order) (h : Finer l a b r) (onward : point_order l p ≡ Less) (apart : ¬ CrossIn a b l p) where
+    (r : Ordering) (h : Finer l a b r) (onward : point_order l p ≡ Less) (apart : ¬ CrossIn a b l p) where
   before : Precedes l a b
   before = finer_precedes a b l dl r h
 
@@ -78,7 +78,7 @@ module _ (a b : LineSegment) (la : HasLength a) (lb : HasLength b) (l p : Point)
   onwards : {A : Type 0} → (West → A) → (One → Up → A) → A
   onwards {A} f g = go (places l p) onward
     where
-      go : {o : Order} → Places l p o → o ≡ Less → A
+      go : {o : Ordering} → Places l p o → o ≡ Less → A
       go (left w) e = f w
       go (below x y) e = g x y
       go (even x y) e = never refl e (omega arith)

@@ -13,8 +13,8 @@ use Rattle.integers.proofs.Order.{≡_cert, ≡→≤, <_or-≥, ≮→≥, ≰�
 use Rattle.integers.proofs.Factors.{m/p, n/p, o/p, m*p}
 use Rattle.integers.proofs.Naturals.{pos-<}
 use Rattle.fractions.specs.Order.{order, and_then}
-use Rattle.fractions.specs.declared.Order.{Order}
-use Rattle.fractions.specs.declared.Order.TheVariants.{Less, Equal, Greater}
+use Rattle.std.specs.declared.cmp.Ordering.{Ordering}
+use Rattle.std.specs.declared.cmp.Ordering.TheVariants.{Less, Equal, Greater}
 use Rattle.fractions.specs.declared.Point.{Point}
 use Rattle.fractions.proofs.Orders.{Answer, is_less_lem, is_equal_lem, is_greater, answer, order_less, order_equal, order_greater, less_order, equal_order, greater_order}
 use Rattle.line_segment.specs.declared.LineSegment.{LineSegment}
@@ -63,7 +63,7 @@ module _ (p : Point) (s : LineSegment) where
   unfolding aside
   not_below k = go (answer (side s p) (pos 0))
     where
-      go : {o : Order} → Answer (side s p) (pos 0) o → is_less o ≡ false
+      go : {o : Ordering} → Answer (side s p) (pos 0) o → is_less o ≡ false
       go (is_less_lem g) = clash_ℤ g k
       go (is_equal_lem g) = refl
       go (is_greater g) = refl
@@ -149,7 +149,7 @@ module _ (a b : LineSegment) (p : Point) (d : 0 < p.d) (ha : pos 0 <ℤ run a) (
       go (inr h) = rising h ∙ order_equal (sym t)
 
 -- ---- strict and total, and what it says of where pieces lie
-abbrev pub Finer : Point → LineSegment → LineSegment → Order → Type 0
+abbrev pub Finer : Point → LineSegment → LineSegment → Ordering → Type 0
 Finer p a b r = and_then (full_height_order p a b) (and_then (slant_order p a b) r) ≡ Less
 
 upright_rises : (p : Point) (s : LineSegment) → run s ≡ pos 0 → pos 0 <ℤ rise s → pos 0 <ℤ slant p s
@@ -163,7 +163,7 @@ slant_even : (p : Point) (s : LineSegment) → slant_order p s s ≡ Equal
 unfolding slant_order
 slant_even p s = order_equal refl
 
-pub finer_precedes : (a b : LineSegment) (p : Point) → 0 < p.d → (r : Order) → Finer p a b r → Precedes p a b
+pub finer_precedes : (a b : LineSegment) (p : Point) → 0 < p.d → (r : Ordering) → Finer p a b r → Precedes p a b
 finer_precedes a b p d r = precedes a b p d (slant_order p a b) r down meet
   where
     down : run a ≡ pos 0 → pos 0 <ℤ rise a → pos 0 <ℤ run b → slant_order p a b ≡ Greater
@@ -173,7 +173,7 @@ finer_precedes a b p d r = precedes a b p d (slant_order p a b) r down meet
     meet ha hb g t n = ≰→> (λ h. n (rising a b p d ha hb g h ∙ order_greater t))
 
 -- of one height, b the steeper: they do not lie above p
-pub finer_behind : (a b : LineSegment) (p : Point) → 0 < p.d → (r : Order) → Finer p a b r
+pub finer_behind : (a b : LineSegment) (p : Point) → 0 < p.d → (r : Ordering) → Finer p a b r
     → pos 0 <ℤ run a → pos 0 <ℤ run b → gap a b p ≡ pos 0 → pos 0 <ℤ tilt a b → pos 0 ≤ℤ side a p
 finer_behind a b p d r h ha hb g t =
     ≮→≥ (λ k.

@@ -10,8 +10,8 @@ use Rattle.integers.proofs.Signs.{<_diff, p*p}
 use Rattle.integers.proofs.Order.{<_cert, ≡→≤, <→≢, neg-<}
 use Rattle.fractions.specs.Order.{and_then}
 use Rattle.fractions.specs.Point.{point_order}
-use Rattle.fractions.specs.declared.Order.{Order}
-use Rattle.fractions.specs.declared.Order.TheVariants.{Less, Equal, Greater}
+use Rattle.std.specs.declared.cmp.Ordering.{Ordering}
+use Rattle.std.specs.declared.cmp.Ordering.TheVariants.{Less, Equal, Greater}
 use Rattle.fractions.specs.declared.Point.{Point}
 use Rattle.fractions.proofs.Orders.{order_less, order_equal}
 use Rattle.line_segment.specs.declared.LineSegment.{LineSegment}
@@ -40,7 +40,7 @@ module _ (a b : LineSegment) (p : Point) (d : 0 < p.d) where
   through_height (upward ea ra) (upward eb rb) e f =
       unfold full_height_order in rw (above_standing a p ea, above_standing b p eb, below_standing a p ea, below_standing b p eb) (order_equal refl)
 
-  pub both_through : HasLength a → HasLength b → side a p ≡ pos 0 → side b p ≡ pos 0 → (r : Order)
+  pub both_through : HasLength a → HasLength b → side a p ≡ pos 0 → side b p ≡ pos 0 → (r : Ordering)
       → and_then (full_height_order p a b) (and_then (slant_order p a b) r) ≡ and_then (slope_order a b) r
   unfolding slant_order slope_order
   both_through la lb e f r =

@@ -2,7 +2,7 @@
 use Rattle.std.specs.Prelude.{◌≡◌, ◌↔◌, true, List, ℕ, ◌<◌, ℤ}
 use mathlib.Core.List.{Memᴰ as In}
 use Rattle.fractions.specs.Point.{point_order}
-use Rattle.fractions.specs.declared.Order.TheVariants.{Less, Greater}
+use Rattle.std.specs.declared.cmp.Ordering.TheVariants.{Less, Greater}
 use Rattle.fractions.specs.declared.Point.{Point}
 use Rattle.line_segment.specs.declared.LineSegment.{LineSegment}
 use Rattle.line_segment.specs.declared.Meeting.TheVariants.{Crossing}
@@ -10,7 +10,7 @@ use Rattle.line_segment.specs.Segment.{intersect_of, crossing_of}
 use Rattle.line_segment.specs.Demand.{Meet}
 use Rattle.charts.specs.Chart.{verdict_of}
 use Rattle.charts.specs.Piece.{piece_at, no_upright}
-use Rattle.charts.specs.declared.Verdict.TheVariants.{Accepted}
+use Rattle.charts.specs.Verdict.{Accepted}
 use Rattle.sweep.specs.Geometry.{Occurs, Under, Geometry}
 use Rattle.sweep.specs.Demand.{RunPromises, SameAnswers, ported_run}
 use Rattle.sweep.specs.Ported.{is_less, slope_order, ported}

@@ -18,8 +18,8 @@ use Rattle.integers.proofs.Signs.{≤_diff, <_diff, diff-≡, <→≤, n+n, n+p,
 use Rattle.integers.proofs.Sizes.{small_lo, small_hi, small_of}
 use Rattle.integers.proofs.Tests.{sized}
 use Rattle.fractions.specs.Point.{point_order, lowest_of}
-use Rattle.fractions.specs.declared.Order.{Order}
-use Rattle.fractions.specs.declared.Order.TheVariants.{Greater}
+use Rattle.std.specs.declared.cmp.Ordering.{Ordering}
+use Rattle.std.specs.declared.cmp.Ordering.TheVariants.{Greater}
 use Rattle.fractions.specs.declared.Point.{Point}
 use Rattle.fractions.proofs.Points.{Places, left, below, same, above, right, places}
 use Rattle.line_segment.specs.declared.LineSegment.{LineSegment}
@@ -40,7 +40,7 @@ module _ (p q : Point) where
   at_most_x : ¬ (point_order p q ≡ Greater) → (p.x *ℤ pos q.d) ≤ℤ (q.x *ℤ pos p.d)
   at_most_x = go (places p q)
     where
-      go : {o : Order} → Places p q o → ¬ (o ≡ Greater) → (p.x *ℤ pos q.d) ≤ℤ (q.x *ℤ pos p.d)
+      go : {o : Ordering} → Places p q o → ¬ (o ≡ Greater) → (p.x *ℤ pos q.d) ≤ℤ (q.x *ℤ pos p.d)
       go (left h) f = <→≤ h
       go (below e h) f = ≡→≤ e
       go (same e h) f = ≡→≤ e
@@ -50,7 +50,7 @@ module _ (p q : Point) where
   at_most_y : p.x *ℤ pos q.d ≡ q.x *ℤ pos p.d → ¬ (point_order p q ≡ Greater) → (p.y *ℤ pos q.d) ≤ℤ (q.y *ℤ pos p.d)
   at_most_y e = go (places p q)
     where
-      go : {o : Order} → Places p q o → ¬ (o ≡ Greater) → (p.y *ℤ pos q.d) ≤ℤ (q.y *ℤ pos p.d)
+      go : {o : Ordering} → Places p q o → ¬ (o ≡ Greater) → (p.y *ℤ pos q.d) ≤ℤ (q.y *ℤ pos p.d)
       go (left h) f = absurd (<→≢ h e)
       go (below _ h) f = <→≤ h
       go (same _ h) f = ≡→≤ h

@@ -21,8 +21,8 @@ use Rattle.integers.proofs.Signs.{≤_diff, <_diff, ≡_diff}
 use Rattle.fractions.specs.Order.{order, and_then}
 use Rattle.fractions.specs.Fraction.{ratio_order}
 use Rattle.fractions.specs.Point.{point_order, whole_of}
-use Rattle.fractions.specs.declared.Order.{Order}
-use Rattle.fractions.specs.declared.Order.TheVariants.{Less, Equal, Greater}
+use Rattle.std.specs.declared.cmp.Ordering.{Ordering}
+use Rattle.std.specs.declared.cmp.Ordering.TheVariants.{Less, Equal, Greater}
 use Rattle.fractions.specs.declared.Point.{Point}
 use Rattle.fractions.proofs.Orders.{Answer, is_less_lem, is_equal_lem, is_greater, answer}
 use Rattle.fractions.proofs.Ratios.{order_scaled}
@@ -105,7 +105,7 @@ module _ (x y : ℤ) {X Y : ℕ} (hx : SFits w16 x) (hy : SFits w16 y) (e : pos 
 equal_as : (a b : ℕ) (t : Bool) → (t ≡ true → a ≡ b) → (a ≡ b → t ≡ true) → t ≡ is_equal (order (pos a) (pos b))
 equal_as a b t f g = go t f g (answer (pos a) (pos b))
   where
-    go : {o : Order} (t : Bool) → (t ≡ true → a ≡ b) → (a ≡ b → t ≡ true) → Answer (pos a) (pos b) o → t ≡ is_equal o
+    go : {o : Ordering} (t : Bool) → (t ≡ true → a ≡ b) → (a ≡ b → t ≡ true) → Answer (pos a) (pos b) o → t ≡ is_equal o
     go true f g (is_less_lem h) = absurd (omega (arith, <_pos h, f refl))
     go true f g (is_equal_lem e) = refl
     go true f g (is_greater h) = absurd (omega (arith, <_pos h, f refl))
@@ -159,7 +159,7 @@ module _ (x y : ℤ) (m : Spot) (h : Fair m) (q : Point) (k : Marks m q) {s : Bo
       let up : 0 < m.d = omega (arith, h.rest_x) in
       go (ratio_order x 1 q.x q.d) (ratio_order y 1 q.y q.d) (by_x ∙ g) (f ∙ ap is_equal (coordinate y _ q.y m.d q.d up k.positive k.up))
     where
-      go : (o o' : Order) → is_equal o ≡ true → t ≡ is_equal o' → t ≡ is_equal (and_then o o')
+      go : (o o' : Ordering) → is_equal o ≡ true → t ≡ is_equal o' → t ≡ is_equal (and_then o o')
       go Less o' a b = absurd (let z : ◌≡◌ {A = ℕ} 0 1 = cc in omega arith)
       go Equal o' a b = b
       go Greater o' a b = absurd (let z : ◌≡◌ {A = ℕ} 0 1 = cc in omega arith)
@@ -168,7 +168,7 @@ module _ (x y : ℤ) (m : Spot) (h : Fair m) (q : Point) (k : Marks m q) {s : Bo
   unfolding point_order
   at_neither g = go (ratio_order x 1 q.x q.d) (ratio_order y 1 q.y q.d) (by_x ∙ g)
     where
-      go : (o o' : Order) → is_equal o ≡ false → false ≡ is_equal (and_then o o')
+      go : (o o' : Ordering) → is_equal o ≡ false → false ≡ is_equal (and_then o o')
       go Less o' a = refl
       go Equal o' a = absurd (let z : ◌≡◌ {A = ℕ} 0 1 = cc in omega arith)
       go Greater o' a = refl

@@ -12,9 +12,10 @@ ghost use Rattle.sweep.specs.Ported.{is_equal};
 ghost use Rattle.full_order.specs.Finer.{aside as aside_of};
 ghost use Rattle.full_points.specs.Spot.{Charted, ChartPoint, Fair, Marks, whole_side, key_of};
 
-use fractions::{Order, Point};
+use fractions::Point;
 use line_segment::LineSegment;
 use segment_crossing::{rise, run};
+use std::cmp::Ordering;
 
 // x is wx + rx / d and y is wy + ry / d, counted from -32,768.
 #[derive(Clone, Copy)]
@@ -117,31 +118,19 @@ fn near_side(s: LineSegment, f: i64, rx: u64, ry: u64, d: u64) -> i64
     f * d as i64 + (run(s) * ry as i64 - rise(s) * rx as i64)
 }
 
-fn sign(g: i64) -> Order
-    ensures { result ≡ order g (pos 0) }
-{
-    if g < 0 {
-        Order::Less
-    } else if 0 < g {
-        Order::Greater
-    } else {
-        Order::Equal
-    }
-}
-
 // Where the point lies of a piece: Less below it, Greater above it. Far from the line the whole parts decide.
-pub fn aside(s: LineSegment, p: Spot) -> Order
+pub fn aside(s: LineSegment, p: Spot) -> Ordering
     requires { Fair p }
     ensures { (q : APoint) → Marks p q → result ≡ aside_of q s }
 {
     let f = whole_side(s, p.wx, p.wy);
     if FAR < f {
-        return Order::Greater;
+        return Ordering::Greater;
     }
     if f < -FAR {
-        return Order::Less;
+        return Ordering::Less;
     }
-    sign(near_side(s, f, p.rx, p.ry, p.d))
+    near_side(s, f, p.rx, p.ry, p.d).cmp(&0)
 }
 
 // How many 2^15th parts of a unit a point is past -32,768, from its x alone.

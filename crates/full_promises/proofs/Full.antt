@@ -10,7 +10,7 @@ use Rattle.fractions.specs.declared.Point.{Point}
 use Rattle.line_segment.specs.declared.LineSegment.{LineSegment}
 use Rattle.charts.specs.Answer.{listing_of}
 use Rattle.charts.specs.Piece.{piece_at}
-use Rattle.charts.specs.declared.Verdict.TheVariants.{Accepted, Refused}
+use Rattle.charts.specs.Verdict.{Accepted, Refused}
 use Rattle.charts.proofs.Listing.{listing_goes, listing_refuses_exactly}
 use Rattle.naive.specs.Pairs.{bytes, over}
 use Rattle.sweep.specs.Lists.{Pair}

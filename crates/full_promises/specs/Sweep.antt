@@ -1,7 +1,7 @@
 -- What is promised of the sweep in the new mode: all that crate promises says of a sweep, with nothing missing on any chart;
 -- and that it says what the ported sweep does where no piece is upright, and where a list is refused.
 use Rattle.std.specs.Prelude.{◌≡◌, List, ℕ, ℤ, length}
-use Rattle.charts.specs.declared.Verdict.TheVariants.{Refused}
+use Rattle.charts.specs.Verdict.{Refused}
 use Rattle.charts.specs.Demand.{ListingDue}
 use Rattle.bentley_ottmann.specs.declared.Swept.{Swept}
 use Rattle.full_sweep.specs.Swept.{sweep_of, lent_after}

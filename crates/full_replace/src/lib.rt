@@ -9,40 +9,14 @@ ghost use Rattle.full_lanes.specs.Lanes.{no_key};
 
 use full_lanes::NONE;
 
-// The places from hi up to `live`, moved down so that they begin at `to`.
-fn shift_down(active: &mut [u8], lanes: &mut [u32], live: usize, hi: usize, to: usize)
-    requires { Movable active.old lanes.old live hi to × (to < hi) }
-    ensures { (active.new ≡ paste active.old to (drop hi active.old) (live - hi)) × (lanes.new ≡ paste lanes.old to (drop hi lanes.old) (live - hi)) }
-{
-    for k in hi..live {
-        let at = k - hi + to;
-        active[at] = active[k];
-        lanes[at] = lanes[k];
-    }
-}
-
-// The same, moved up.
-fn shift_up(active: &mut [u8], lanes: &mut [u32], live: usize, hi: usize, to: usize)
-    requires { Movable active.old lanes.old live hi to × (hi < to) }
-    ensures { (active.new ≡ paste active.old to (drop hi active.old) (live - hi)) × (lanes.new ≡ paste lanes.old to (drop hi lanes.old) (live - hi)) }
-{
-    let mut k = live;
-    while hi < k {
-        k -= 1;
-        let at = k - hi + to;
-        active[at] = active[k];
-        lanes[at] = lanes[k];
-    }
-}
-
+// The places from hi up to `live`, moved so that they begin at `to`.
 fn shift(active: &mut [u8], lanes: &mut [u32], live: usize, hi: usize, to: usize)
     requires { Movable active.old lanes.old live hi to }
     ensures { (active.new ≡ paste active.old to (drop hi active.old) (live - hi)) × (lanes.new ≡ paste lanes.old to (drop hi lanes.old) (live - hi)) }
 {
-    if to < hi {
-        shift_down(active, lanes, live, hi, to);
-    } else if hi < to {
-        shift_up(active, lanes, live, hi, to);
+    if to != hi {
+        active.copy_within(hi..live, to);
+        lanes.copy_within(hi..live, to);
     }
 }
 
@@ -51,10 +25,8 @@ fn write(active: &mut [u8], lanes: &mut [u32], lo: usize, fresh: &[u8], m: usize
     requires { (lo + m ≤ length active.old) × (length lanes.old ≡ length active.old) × (m ≤ length fresh.now) }
     ensures { (active.new ≡ paste active.old lo fresh.now m) × (lanes.new ≡ paste lanes.old lo (replicate m no_key) m) }
 {
-    for k in 0..m {
-        active[lo + k] = fresh[k];
-        lanes[lo + k] = NONE;
-    }
+    active[lo..lo + m].copy_from_slice(&fresh[..m]);
+    lanes[lo..lo + m].fill(NONE);
 }
 
 // The first m new pieces in the place of those from lo up to hi; how many are active now.
@@ -81,7 +53,7 @@ pub fn put_in(active: &mut [u8], lanes: &mut [u32], live: usize, lo: usize, i: u
     requires { Movable active.old lanes.old live lo (lo + 1) }
     ensures { Replaced active.old lanes.old live lo lo (i ∷ []) 1 active.new lanes.new (live + 1) }
 {
-    shift_up(active, lanes, live, lo, lo + 1);
+    shift(active, lanes, live, lo, lo + 1);
     active[lo] = i;
     lanes[lo] = NONE;
 }
@@ -91,7 +63,7 @@ pub fn take_out(active: &mut [u8], lanes: &mut [u32], live: usize, lo: usize)
     requires { Movable active.old lanes.old live (lo + 1) lo }
     ensures { Replaced active.old lanes.old live lo (lo + 1) [] 0 active.new lanes.new (live - 1) }
 {
-    shift_down(active, lanes, live, lo + 1, lo);
+    shift(active, lanes, live, lo + 1, lo);
 }
 
 // The pieces at places k and k + 1 exchanged, neither with a lane.

@@ -4,7 +4,8 @@ use mathlib.Core.Logic.{◌⊎◌, inl, inr, ⊎_elim}
 use mathlib.Core.Bool.{Bool, true, false, cond}
 use mathlib.Core.List.Memᴰ
 use mathlib.Core.List.{List, ◌++◌}
-use mathlib.Core.Option.{Option, none, some}
+use mathlib.Core.Option as maybe
+use mathlib.Core.Option.{none, some}
 use Prim.Native.Nat.{ℕ, zero, suc, ◌+◌, ◌-◌, ◌*◌, ◌≤◌, ◌<◌}
 use native.Mathlib.Nat.{suc-add, zero-add}
 use native.Mathlib.Numerals.{add-one}
@@ -14,6 +15,7 @@ use lib.Dec.{eqb, leb}
 use lib.IntN.{ℤ}
 use lib.ListN.{length}
 use lib.Seq.{sets}
+use Rattle.std.specs.Prelude.{Option, None, Some}
 use Rattle.fractions.specs.Point.{lowest_of}
 use Rattle.fractions.specs.declared.Point.{Point}
 use Rattle.sweep.specs.Chart.{Chart}
@@ -32,8 +34,6 @@ use Rattle.full_visit.proofs.Queue.{next_least, left, taken, end_next, end_next_
 use Rattle.full_visit.specs.declared.Visited.{Visited}
 use Rattle.full_visit.specs.Visit.{After, Visiting}
 use Rattle.full_visit.proofs.Choosing.{known, count}
-use Rattle.ported_run.specs.declared.Last.{Last}
-use Rattle.ported_run.specs.declared.Last.TheVariants.{None, At}
 use Rattle.ported_run.specs.Last.{as_last}
 use Rattle.full_run.specs.Running.{last_at, Begun, Stopped}
 
@@ -83,13 +83,13 @@ module _ {n : ℕ} {table : List ℤ} {lent : List ℕ} {m : ℕ} {ends : List �
       (ask (leb (length ends) passed))
 
 -- ---- the loop
-abbrev pub last_of : ℕ → Point → Option Point
+abbrev pub last_of : ℕ → Point → maybe.Option Point
 last_of steps p = cond (eqb steps 0) none (some (lowest_of p.x p.y p.d))
 
 as_last_lem : (steps : ℕ) (p : Point) → last_at steps p ≡ as_last (last_of steps p)
 as_last_lem steps p = go (eqb steps 0) (lowest_of p.x p.y p.d)
   where
-    go : (b : Bool) (q : Point) → cond b None (At q) ≡ as_last (cond b none (some q))
+    go : (b : Bool) (q : Point) → cond b None (Some q) ≡ as_last (cond b none (some q))
     go true q = refl
     go false q = refl
 
@@ -158,7 +158,7 @@ module _ {table : List ℤ} {ends active₀ lanes₀ bytes₀ : List ℕ} {budge
 
   -- where it stops
   pub stopped : (n : ℕ) → Begun n table ends active₀ lanes₀ bytes₀ → (budget ≤ steps) ⊎ (length ends ≤ passed)
-      → {e : Bool} → e ≡ leb (length ends) passed → {l : Last} → l ≡ last_at steps last
+      → {e : Bool} → e ≡ leb (length ends) passed → {l : Option Point} → l ≡ last_at steps last
       → Stopped n table budget bytes₀ (record { end = end; steps = steps; ended = e; last = l }) bytes
   unfolding answer answer_of
   stopped n B h {e} f {l} g =

@@ -1,5 +1,5 @@
 -- What the arrays hold when a run of the new mode begins, and what is told where it stops.
-use Rattle.std.specs.Prelude.{◌≡◌, cond, List, ℕ, eqb, ℤ, length}
+use Rattle.std.specs.Prelude.{◌≡◌, cond, List, ℕ, eqb, ℤ, length, Option, None, Some}
 use Rattle.std.proofs.lemmas.List.Edits.{sets}
 use Rattle.fractions.specs.Point.{lowest_of}
 use Rattle.fractions.specs.declared.Point.{Point}
@@ -8,14 +8,12 @@ use Rattle.ported_arrays.specs.Agreement.{flat}
 use Rattle.full_steps.specs.Steps.{answer}
 use Rattle.full_ends.specs.Ends.{sorted_keys}
 use Rattle.full_visit.specs.Carried.{chart, Given}
-use Rattle.ported_run.specs.declared.Last.{Last}
-use Rattle.ported_run.specs.declared.Last.TheVariants.{None, At}
 use Rattle.ported_run.specs.Last.{as_last}
 use Rattle.full_run.specs.declared.Stop.{Stop}
 
 -- the last point in lowest terms, or none after zero steps
-abbrev pub last_at : ℕ → Point → Last
-last_at steps p = cond (eqb steps 0) None (At (lowest_of p.x p.y p.d))
+abbrev pub last_at : ℕ → Point → Option Point
+last_at steps p = cond (eqb steps 0) None (Some (lowest_of p.x p.y p.d))
 
 pub record Begun (n : ℕ) (table : List ℤ) (ends active lanes bytes : List ℕ) : Type 0 where
   pub given : Given n table bytes

@@ -6,7 +6,6 @@ ghost use Rattle.full_run.specs.Running.{last_at};
 
 use fractions::Point;
 pub use full_visit::visit;
-use ported_run::Last;
 
 // Where a run stops: the end of the list, the steps done, whether the queue is empty, and the last point.
 #[derive(Clone, Copy)]
@@ -14,16 +13,16 @@ pub struct Stop {
     pub end: usize,
     pub steps: u32,
     pub ended: bool,
-    pub last: Last,
+    pub last: Option<Point>,
 }
 
 // The last point, in lowest terms.
-pub fn last_at(steps: u32, p: Point) -> Last
+pub fn last_at(steps: u32, p: Point) -> Option<Point>
     ensures { result ≡ last_at steps p }
 {
     if steps == 0 {
-        Last::None
+        None
     } else {
-        Last::At(lowest_terms::lowest(p.x, p.y, p.d))
+        Some(lowest_terms::lowest(p.x, p.y, p.d))
     }
 }

@@ -9,7 +9,7 @@ use mathlib.Core.List.{Memᴰ as In}
 use Prim.Native.Nat.{ℕ, ◌+◌, ◌-◌, ◌<◌}
 use native.Mathlib.Omega.{arith}
 use lib.ListN.{length, take, drop, length-append}
-use Rattle.fractions.specs.declared.Order.TheVariants.{Equal}
+use Rattle.std.specs.declared.cmp.Ordering.TheVariants.{Equal}
 use Rattle.sweep.specs.Lists.{Pair, adjacent, Pairwise}
 use Rattle.sweep.specs.Chart.{Chart, kind, at}
 use Rattle.sweep.specs.Queue.{beyond}

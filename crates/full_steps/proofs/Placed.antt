@@ -10,7 +10,7 @@ use Prim.Native.Nat.{ℕ, zero, suc, ◌+◌, ◌-◌, ◌≤◌, ◌<◌}
 use native.Mathlib.Omega.{arith}
 use lib.ListN.{length, take, drop, get_or, length-append, get_or-append}
 use lib.Seq.{take-append_seam, drop-append_seam, drop_at, get_or-append-add}
-use Rattle.fractions.specs.declared.Order.TheVariants.{Less, Equal, Greater}
+use Rattle.std.specs.declared.cmp.Ordering.TheVariants.{Less, Equal, Greater}
 use Rattle.sweep.specs.Chart.{Chart}
 use Rattle.sweep.specs.Geometry.{Geometry}
 use Rattle.sweep.proofs.Ranked.{ranked}

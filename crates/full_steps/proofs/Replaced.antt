@@ -9,7 +9,7 @@ use mathlib.Core.List.{List, ◌++◌}
 use mathlib.Core.List.{Memᴰ as In}
 use Prim.Native.Nat.{ℕ}
 use native.Mathlib.Omega.{arith}
-use Rattle.fractions.specs.declared.Order.TheVariants.{Less, Equal, Greater}
+use Rattle.std.specs.declared.cmp.Ordering.TheVariants.{Less, Equal, Greater}
 use Rattle.sweep.specs.Lists.{upto, keep, sort, Pairwise}
 use Rattle.sweep.specs.Chart.{Chart}
 use Rattle.sweep.specs.Step.{starts, finishes}

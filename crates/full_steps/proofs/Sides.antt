@@ -8,8 +8,8 @@ use mathlib.Core.List.{List, [], ◌∷◌, ◌++◌}
 use mathlib.Core.List.{Memᴰ as In}
 use Prim.Native.Nat.{ℕ}
 use native.Mathlib.Omega.{arith}
-use Rattle.fractions.specs.declared.Order.{Order}
-use Rattle.fractions.specs.declared.Order.TheVariants.{Less, Equal, Greater}
+use Rattle.std.specs.declared.cmp.Ordering.{Ordering}
+use Rattle.std.specs.declared.cmp.Ordering.TheVariants.{Less, Equal, Greater}
 use Rattle.sweep.specs.Lists.{keep, Pairwise}
 use Rattle.sweep.specs.Chart.{Chart}
 use Rattle.sweep.specs.Geometry.{Occurs, Under, CrossBetween, Geometry}
@@ -25,26 +25,26 @@ use Rattle.full_steps.specs.InPlace.{is_greater_lem, Sides, InPlaceFacts, below,
 use Rattle.full_steps.proofs.Step.{Inv, next_soonest}
 
 -- ---- three parts by an order that never goes back
-pub is_less_lem : (o : Order) → is_less o ≡ true → o ≡ Less
+pub is_less_lem : (o : Ordering) → is_less o ≡ true → o ≡ Less
 is_less_lem Less e = refl
 is_less_lem Equal e = clash e refl
 is_less_lem Greater e = clash e refl
 
-pub is_equal_lem : (o : Order) → is_equal o ≡ true → o ≡ Equal
+pub is_equal_lem : (o : Ordering) → is_equal o ≡ true → o ≡ Equal
 is_equal_lem Less e = clash e refl
 is_equal_lem Equal e = refl
 is_equal_lem Greater e = clash e refl
 
-pub is_greater : (o : Order) → is_greater_lem o ≡ true → o ≡ Greater
+pub is_greater : (o : Ordering) → is_greater_lem o ≡ true → o ≡ Greater
 is_greater Less e = clash e refl
 is_greater Equal e = clash e refl
 is_greater Greater e = refl
 
 -- the side never goes back
-abbrev pub Onward : (ℕ → Order) → ℕ → ℕ → Type 0
+abbrev pub Onward : (ℕ → Ordering) → ℕ → ℕ → Type 0
 Onward f i j = (f i ≡ Less → f j ≡ Less) × (f j ≡ Greater → f i ≡ Greater)
 
-module _ (f : ℕ → Order) where
+module _ (f : ℕ → Ordering) where
   abbrev three : List ℕ → List ℕ
   three l = keep (λ i. is_greater_lem (f i)) l ++ (keep (λ i. is_equal (f i)) l ++ keep (λ i. is_less (f i)) l)
 
@@ -56,7 +56,7 @@ module _ (f : ℕ → Order) where
       none_greater : ¬ (f x ≡ Greater) → keep (λ i. is_greater_lem (f i)) l ≡ []
       none_greater ne = keep_none (λ i. is_greater_lem (f i)) l (λ y m. not_greater (f y) (λ e. ne ((u.0 y m).1 e)))
         where
-          not_greater : (o : Order) → ¬ (o ≡ Greater) → is_greater_lem o ≡ false
+          not_greater : (o : Ordering) → ¬ (o ≡ Greater) → is_greater_lem o ≡ false
           not_greater Less h = refl
           not_greater Equal h = refl
           not_greater Greater h = absurd (h refl)
@@ -64,7 +64,7 @@ module _ (f : ℕ → Order) where
       none_equal : f x ≡ Less → keep (λ i. is_equal (f i)) l ≡ []
       none_equal e = keep_none (λ i. is_equal (f i)) l (λ y m. rw ((u.0 y m).0 e))
 
-      go : (o : Order) → f x ≡ o → l ≡ three l → x ∷ l ≡ three (x ∷ l)
+      go : (o : Ordering) → f x ≡ o → l ≡ three l → x ∷ l ≡ three (x ∷ l)
       go Greater e h = rw e (ap (λ (z : List ℕ). x ∷ z) h)
       go Equal e h =
           let g = none_greater (λ d. let z : ◌≡◌ {A = ℕ} 0 1 = cc in absurd (omega arith)) in

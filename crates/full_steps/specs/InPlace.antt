@@ -2,8 +2,9 @@
 -- What it leaves is what the step of Steps leaves (Demand), by the facts of geometry that stand here last.
 use Rattle.std.specs.Prelude.{◌≡◌, ◌↔◌, Bool, true, false, cond, ◌&&◌, ◌||◌, not, List, [], ◌∷◌, ◌++◌, map, ℕ, zero, suc, ◌+◌, ◌-◌, ◌<◌, eqb, length, take, drop}
 use Rattle.std.proofs.Math.Option.{Option, none, some}
-use Rattle.fractions.specs.declared.Order.{Order}
-use Rattle.fractions.specs.declared.Order.TheVariants.{Less, Equal, Greater}
+use Rattle.std.specs.declared.cmp.Ordering.{Ordering}
+use Rattle.std.specs.declared.cmp.Ordering.TheVariants.{Less, Equal, Greater}
+use Rattle.std.specs.Ordering.{is_gt}
 use Rattle.sweep.specs.Lists.{Pair, upto, keep, any, sort, pairs, lesser_first, last_of, adjacent}
 use Rattle.sweep.specs.Chart.{Kind, nothing, crosses, overlaps, Chart, kind, at}
 use Rattle.sweep.specs.Queue.{ends, beyond, least}
@@ -13,10 +14,8 @@ use Rattle.sweep.specs.Sought.{is_crossing}
 use Rattle.sweep.specs.Geometry.{Occurs, Under, CrossBetween, Geometry}
 use Rattle.sweep.specs.Ported.{is_less, is_equal}
 
-abbrev pub is_greater_lem : Order → Bool
-is_greater_lem Less = false
-is_greater_lem Equal = false
-is_greater_lem Greater = true
+abbrev pub is_greater_lem : Ordering → Bool
+is_greater_lem = is_gt
 
 -- the lanes that are taken
 unfoldable pub somes : {A : Type 0} → List (Option A) → List A
@@ -70,7 +69,7 @@ module _ (C : Chart) where
 -- how a chart's pieces lie of a point: Less where p is below piece i, Equal where it is on it, Greater where it is above;
 -- and whether i comes before j by rising slope (an upright piece last), then number
 pub record Sides (C : Chart) : Type 0 where
-  pub aside : C.Point → ℕ → Order
+  pub aside : C.Point → ℕ → Ordering
   pub rises : ℕ → ℕ → Bool
 
 module _ (C : Chart) (S : Sides C) where

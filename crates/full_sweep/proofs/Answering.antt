@@ -10,7 +10,7 @@ use Rattle.line_segment.specs.declared.LineSegment.{LineSegment}
 use Rattle.charts.specs.Chart.{most, verdict_of}
 use Rattle.charts.specs.Answer.{room, listing_of}
 use Rattle.charts.specs.Piece.{piece_at}
-use Rattle.charts.specs.declared.Verdict.TheVariants.{Accepted, Refused}
+use Rattle.charts.specs.Verdict.{Accepted, Refused}
 use Rattle.charts.proofs.Accepted.{accepted_most}
 use Rattle.charts.proofs.Stores.{sets_front}
 use Rattle.naive.specs.Pairs.{over}

@@ -4,8 +4,8 @@ use Rattle.std.specs.Prelude.{List, ℕ, ℤ, length}
 use Rattle.line_segment.specs.declared.LineSegment.{LineSegment}
 use Rattle.charts.specs.Answer.{listing_of}
 use Rattle.charts.specs.Piece.{piece_at}
-use Rattle.charts.specs.declared.Verdict.{Verdict}
-use Rattle.charts.specs.declared.Verdict.TheVariants.{Accepted, Refused}
+use Rattle.charts.specs.Verdict.{Verdict}
+use Rattle.charts.specs.Verdict.{Accepted, Refused}
 use Rattle.naive.specs.Pairs.{bytes, over}
 use Rattle.sweep.specs.Run.{Answer}
 use Rattle.full_steps.specs.Steps.{answer}

@@ -5,12 +5,11 @@ ghost use Rattle.std.specs.Prelude.{◌≡◌, ◌≤◌, length};
 ghost use Rattle.charts.specs.Chart.{verdict_of};
 ghost use Rattle.charts.specs.Answer.{room};
 ghost use Rattle.charts.specs.Piece.{piece_at};
-ghost use Rattle.charts.specs.declared.Verdict.TheVariants.{Accepted};
+ghost use Rattle.charts.specs.Verdict.{Accepted};
 ghost use Rattle.full_sweep.specs.Swept.{swept_by, listed_over, sweep_of, lent_after};
 
 use bentley_ottmann::Swept;
-use charts::{MOST, Verdict};
-use ported_run::Last;
+use charts::MOST;
 
 // The sweep of an accepted chart.
 fn sweep_pieces(list: &[i32], n: usize, budget: u32, pairs: &mut [u8]) -> Swept
@@ -20,7 +19,6 @@ fn sweep_pieces(list: &[i32], n: usize, budget: u32, pairs: &mut [u8]) -> Swept
     let mut table = [0i16; 5 * MOST];
     ported_table::fill(list, n, &mut table);
     let stop = full_loop::run(&table, n, budget, pairs);
-    let last = stop.last;
     Swept {
         number: 0,
         place: 0,
@@ -28,7 +26,7 @@ fn sweep_pieces(list: &[i32], n: usize, budget: u32, pairs: &mut [u8]) -> Swept
         steps: stop.steps,
         ended: stop.ended,
         complete: true,
-        last,
+        last: stop.last,
         examined: 0,
     }
 }
@@ -39,7 +37,7 @@ pub fn sweep(list: &[i32], budget: u32, pairs: &mut [u8]) -> Swept
     ensures { (result ≡ sweep_of list.now budget (length pairs.old)) × (pairs.new ≡ lent_after list.now budget pairs.old) }
 {
     match chart_verdict::listing_of(list, pairs.len()) {
-        Verdict::Refused(number, place) => bentley_ottmann::refused(number, place),
-        Verdict::Accepted(n) => sweep_pieces(list, n, budget, pairs),
+        Err(refusal) => bentley_ottmann::refused(refusal),
+        Ok(n) => sweep_pieces(list, n, budget, pairs),
     }
 }

@@ -1,12 +1,11 @@
 -- The half-line's own call, on five numbers of a piece and two points.
-use Rattle.std.specs.Prelude.{cond, [], ◌∷◌, ℕ, eqb, ℤ, pos}
+use Rattle.std.specs.Prelude.{cond, [], ◌∷◌, ℕ, eqb, ℤ, pos, Option, None}
 use Rattle.charts.specs.Fault.{fault_of}
 use Rattle.charts.specs.Piece.{coordinate_of, piece_at}
 use Rattle.half_line.specs.HalfLine.{half_line_of}
 use Rattle.half_line.specs.declared.Corner.{Corner}
 use Rattle.half_line.specs.declared.HalfLineAnswer.{HalfLineAnswer}
-use Rattle.half_line.specs.declared.IHalfLineLineSegmentSoS.{IHalfLineLineSegmentSoS}
-use Rattle.half_line.specs.declared.IHalfLineLineSegmentSoS.TheVariants.{Nothing}
+use Rattle.orientation.specs.declared.Orientation.{Orientation}
 
 -- the point of two numbers
 abbrev pub corner_at : ℤ → ℤ → Corner
@@ -21,8 +20,8 @@ unfoldable pub call_fault : ℤ → ℤ → ℤ → ℤ → ℤ → ℤ → ℤ 
 call_fault kind x1 y1 x2 y2 x y tx ty = fault_then (fault_of kind x1 y1 x2 y2) (fault_of (pos 3) x y tx ty)
 
 -- "A refusal returns its number .., with every other field .. nothing"
-abbrev pub answer_by : ℕ → IHalfLineLineSegmentSoS → HalfLineAnswer
-answer_by number meeting = record { number = number; meeting = cond (eqb number 0) meeting Nothing }
+abbrev pub answer_by : ℕ → Option Orientation → HalfLineAnswer
+answer_by number meeting = record { number = number; meeting = cond (eqb number 0) meeting None }
 
 -- the half-line from x, y through tx, ty
 unfoldable pub half_line_answer_of : ℤ → ℤ → ℤ → ℤ → ℤ → ℤ → ℤ → ℤ → ℤ → HalfLineAnswer

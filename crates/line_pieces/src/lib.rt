@@ -16,23 +16,29 @@ fn folded(h: usize, v: usize) -> usize
     if h < r { 2 * h - r } else { r }
 }
 
-// Where the line folds for the j-th time, or S where that comes first.
-fn joint(m: usize, h: usize, s: usize, j: usize) -> usize
-    requires { Sized m h s × (j ≤ most_pieces) }
-    ensures { result ≡ joint_of m h s j }
-{
-    let x = j * h / m;
-    if s < x { s } else { x }
+// m times x, folded at 0 and H, from x = 0 to S.
+#[derive(Clone, Copy)]
+struct Line {
+    m: usize,
+    h: usize,
+    s: usize,
 }
 
-// Writes an end of a piece: x, and the folded value there.
-fn put_end(m: usize, h: usize, x: usize, at: usize, out: &mut [i32])
-    requires { (m ≤ most_order) × (0 < h) × (h ≤ limit) × (x ≤ limit) × (at + 2 ≤ length out.old) }
-    ensures { out.new ≡ sets out.old at (end_at m h x) }
+// Where the line folds for the j-th time, or S where that comes first.
+fn joint(line: Line, j: usize) -> usize
+    requires { Sized line.m line.h line.s × (j ≤ most_pieces) }
+    ensures { result ≡ joint_of line.m line.h line.s j }
 {
-    let y = folded(h, m * x);
-    out[at] = x as i32;
-    out[at + 1] = y as i32;
+    let x = j * line.h / line.m;
+    if line.s < x { line.s } else { x }
+}
+
+// An end of a piece: x, and the folded value there.
+fn end_at(line: Line, x: usize) -> [i32; 2]
+    requires { Sized line.m line.h line.s × (x ≤ line.s) }
+    ensures { result ≡ end_at line.m line.h x }
+{
+    [x as i32, folded(line.h, line.m * x) as i32]
 }
 
 // The final piece includes both its ends, any other its first.
@@ -43,16 +49,15 @@ fn kind_of(n: usize, j: usize) -> i32
     if j + 1 == n { 3 } else { 1 }
 }
 
-// Writes piece j of n: its kind, its first end and its last.
-fn put_piece(m: usize, h: usize, s: usize, n: usize, j: usize, out: &mut [i32])
-    requires { Sized m h s × (j < n) × (n ≤ most_pieces) × (5 * n ≤ length out.old) }
-    ensures { out.new ≡ sets out.old (5 * j) (five m h s n j) }
+// Piece j of n: its kind, its first end and its last.
+fn five(line: Line, n: usize, j: usize) -> [i32; 5]
+    requires { Sized line.m line.h line.s × (j < n) × (n ≤ most_pieces) }
+    ensures { result ≡ five line.m line.h line.s n j }
 {
-    let a = joint(m, h, s, j);
-    let b = joint(m, h, s, j + 1);
-    out[5 * j] = kind_of(n, j);
-    put_end(m, h, a, 5 * j + 1, out);
-    put_end(m, h, b, 5 * j + 3, out);
+    let kind = kind_of(n, j);
+    let [x1, y1] = end_at(line, joint(line, j));
+    let [x2, y2] = end_at(line, joint(line, j + 1));
+    [kind, x1, y1, x2, y2]
 }
 
 // Writes the n pieces, from left to right.
@@ -60,7 +65,9 @@ pub fn put_pieces(m: usize, h: usize, s: usize, n: usize, out: &mut [i32])
     requires { Sized m h s × (n ≤ most_pieces) × (5 * n ≤ length out.old) }
     ensures { out.new ≡ sets out.old 0 (fives m h s n n) }
 {
+    let line = Line { m, h, s };
+    // by number: after a walk over the list in fives nothing would be known of what it holds
     for j in 0..n {
-        put_piece(m, h, s, n, j, out);
+        out[5 * j..5 * j + 5].copy_from_slice(&five(line, n, j));
     }
 }

@@ -9,8 +9,8 @@ use Rattle.integers.proofs.Identity.{by_ring, terms}
 use Rattle.integers.proofs.Signs.{<_diff, n+p, p+n, p*p, sq}
 use Rattle.integers.proofs.Order.{<_cert, <→≢}
 use Rattle.integers.proofs.Factors.{p/p, m/p, p*m, zero_product}
-use Rattle.fractions.specs.declared.Order.{Order}
-use Rattle.fractions.specs.declared.Order.TheVariants.{Less}
+use Rattle.std.specs.declared.cmp.Ordering.{Ordering}
+use Rattle.std.specs.declared.cmp.Ordering.TheVariants.{Less}
 use Rattle.fractions.specs.declared.Point.{Point}
 use Rattle.fractions.specs.Order.{order}
 use Rattle.fractions.specs.Point.{point_order}
@@ -135,7 +135,7 @@ module _ (s : LineSegment) (p : Point) (l : Leads s) (on : side s p ≡ pos 0) w
   unfolding past side point_of
   past_order = go (places (point_of s.min) p)
     where
-      go : {o : Order} → Places (point_of s.min) p o → o ≡ order (pos 0) (past s p)
+      go : {o : Ordering} → Places (point_of s.min) p o → o ≡ order (pos 0) (past s p)
       go (left h) = sym (order_less (ahead_x s _ _ on l (over_one _ p.x h)))
       go (below e h) = sym (order_less (ahead_y s _ _ on l (at_one _ p.x e) (over_one _ p.y h)))
       go (same e f) = sym (order_equal (sym (still s _ _ on (at_one _ p.x e) (at_one _ p.y f))))
@@ -153,7 +153,7 @@ module _ (s : LineSegment) (p : Point) (l : Leads s) (on : side s p ≡ pos 0) w
   unfolding short point_of
   short_order = go (places p (point_of s.max))
     where
-      go : {o : Order} → Places p (point_of s.max) o → o ≡ order (pos 0) (short s p)
+      go : {o : Ordering} → Places p (point_of s.max) o → o ≡ order (pos 0) (short s p)
       go (left h) = sym (order_less (ahead_x s _ _ on' l (one_over p.x _ h)))
       go (below e h) = sym (order_less (ahead_y s _ _ on' l (one_at p.x _ e) (one_over p.y _ h)))
       go (same e f) = sym (order_equal (sym (still s _ _ on' (one_at p.x _ e) (one_at p.y _ f))))

@@ -1,10 +1,11 @@
 -- What the parts of the test answer, from what a branch of the code knows.
-use mathlib.Core.Path.{◌≡◌, sym, ◌∙◌}
-use mathlib.Core.Bool.{Bool, true, false}
+use mathlib.Core.Path.{◌≡◌, refl, sym, ◌∙◌}
+use mathlib.Core.Bool.{Bool, true, false, ◌&&◌}
+use Rattle.std.proofs.lemmas.Bool.{false≢true}
 use Rattle.orientation.specs.declared.Orientation.{Orientation}
 use Rattle.orientation.specs.Turn.{is_straight}
-use Rattle.fractions.specs.declared.Order.{Order}
-use Rattle.fractions.specs.declared.Order.TheVariants.{Equal}
+use Rattle.std.specs.declared.cmp.Ordering.{Ordering}
+use Rattle.std.specs.declared.cmp.Ordering.TheVariants.{Less, Equal, Greater}
 use Rattle.fractions.specs.declared.Point.{Point}
 use Rattle.fractions.specs.Point.{point_order}
 use Rattle.line_segment.specs.declared.EndPoint.{EndPoint}
@@ -15,8 +16,8 @@ use Rattle.line_segment.specs.Geometry.{admits}
 use Rattle.line_segment.proofs.Booleans.{and_true, and_false, false_and}
 use Rattle.line_segment.specs.Segment.{within, inner_between, stretch_by, stretch_of, touch_of, turn_to, opposed, astride_of, intersect_of}
 
-module _ (p : Point) (a b : EndPoint) {s : LineSegment} {o : Order} (j : s ≡ join_of a b) (first : o ≡ point_order (point_of s.min) p) where
-  pub between_then : admits o s.min.included ≡ true → {o' : Order} → o' ≡ point_order p (point_of s.max) → {r : Bool} → r ≡ admits o' s.max.included → r ≡ inner_between p a b
+module _ (p : Point) (a b : EndPoint) {s : LineSegment} {o : Ordering} (j : s ≡ join_of a b) (first : o ≡ point_order (point_of s.min) p) where
+  pub between_then : admits o s.min.included ≡ true → {o' : Ordering} → o' ≡ point_order p (point_of s.max) → {r : Bool} → r ≡ admits o' s.max.included → r ≡ inner_between p a b
   unfolding within inner_between
   between_then e second f = f ∙ rw (← j, ← first, e, ← second)
 
@@ -24,18 +25,18 @@ module _ (p : Point) (a b : EndPoint) {s : LineSegment} {o : Order} (j : s ≡ j
   unfolding within inner_between
   between_not e f = f ∙ rw (← j, ← first, sym e ∙ f)
 
-module _ (s : LineSegment) where
-  pub one_point : s.max.included ≡ true → s.min.included ≡ true → Overlap s ≡ stretch_by Equal s
-  unfolding stretch_by
-  one_point e f = rw (e, f)
+-- the stretch between two ends is one where the first end admits the second
+pub stretch_yes : (o : Ordering) (s : LineSegment) → admits o (s.max.included && s.min.included) ≡ true → Overlap s ≡ stretch_by o s
+unfolding stretch_by
+stretch_yes Less s e = refl
+stretch_yes Equal s e = rw e
+stretch_yes Greater s e = absurd (false≢true e)
 
-  pub max_left_out : s.max.included ≡ false → Nothing ≡ stretch_by Equal s
-  unfolding stretch_by
-  max_left_out e = rw e
-
-  pub min_left_out : s.min.included ≡ false → Nothing ≡ stretch_by Equal s
-  unfolding stretch_by
-  min_left_out e = rw (and_false s.max.included e)
+pub stretch_no : (o : Ordering) (s : LineSegment) → admits o (s.max.included && s.min.included) ≡ false → Nothing ≡ stretch_by o s
+unfolding stretch_by
+stretch_no Less s e = absurd (false≢true (sym e))
+stretch_no Equal s e = rw e
+stretch_no Greater s e = refl
 
 module _ (e : EndPoint) (s : LineSegment) where
   pub touch_yes : e.included ≡ true → inner_between (point_of e) s.min s.max ≡ true → Crossing ≡ touch_of e s

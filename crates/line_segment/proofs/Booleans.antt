@@ -1,5 +1,5 @@
 -- Answers of two questions; and two constructors that cannot be equal: `no (cc)` where the facts at hand say that they are.
-use mathlib.Core.Path.{◌≡◌, refl}
+use mathlib.Core.Path.{◌≡◌, refl, sym}
 use mathlib.Core.Bool.{Bool, true, false, ◌&&◌}
 use Prim.Native.Nat.{ℕ}
 use native.Mathlib.Omega.{arith}
@@ -23,3 +23,14 @@ and_false false e = refl
 
 pub false_and : {x : Bool} (y : Bool) → x ≡ false → x && y ≡ false
 false_and y h = rw h
+
+-- three questions, the third asked only where both others are answered yes
+pub all_but_last : (a b c : Bool) → a && b ≡ true → c ≡ a && (b && c)
+all_but_last true true c e = refl
+all_but_last true false c e = clash e
+all_but_last false b c e = clash e
+
+pub stops_early : (a b c : Bool) → a && b ≡ false → false ≡ a && (b && c)
+stops_early true true c e = clash (sym e)
+stops_early true false c e = refl
+stops_early false b c e = refl

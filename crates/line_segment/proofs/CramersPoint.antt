@@ -11,7 +11,7 @@ use Rattle.integers.proofs.Tests.{sized}
 use Rattle.integers.specs.Size.{Small}
 use Rattle.fractions.specs.declared.Point.{Point}
 use Rattle.fractions.specs.Point.{Lowest, Bounded, lowest_of, point_order}
-use Rattle.fractions.specs.declared.Order.TheVariants.{Equal}
+use Rattle.std.specs.declared.cmp.Ordering.TheVariants.{Equal}
 use Rattle.fractions.proofs.Promises.{lowest_terms}
 use Rattle.fractions.proofs.Quotient.{same_record}
 use Rattle.line_segment.specs.declared.LineSegment.{LineSegment}

@@ -4,7 +4,7 @@ use mathlib.Core.Bool.{Bool, true, false, cond, ◌&&◌}
 use Prim.Native.Nat.{◌<◌}
 use lib.IntN.{ℤ, pos}
 use Rattle.integers.proofs.Order.{<_trans, <→≢}
-use Rattle.fractions.specs.declared.Order.TheVariants.{Equal}
+use Rattle.std.specs.declared.cmp.Ordering.TheVariants.{Equal}
 use Rattle.fractions.specs.declared.Point.{Point}
 use Rattle.fractions.specs.Point.{point_order}
 use Rattle.line_segment.specs.declared.EndPoint.{EndPoint}

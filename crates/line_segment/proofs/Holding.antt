@@ -1,17 +1,18 @@
 -- What the parts of `contains` answer, from what a branch of the code knows.
 use mathlib.Core.Path.{◌≡◌, refl, sym, ap, ◌∙◌}
-use mathlib.Core.Bool.{Bool, true, false, cond}
-use Prim.Native.Nat.{ℕ, zero, suc, ◌^◌, ◌<◌, ◌≤◌}
+use mathlib.Core.Bool.{Bool, true, false, cond, not, beq, ◌&&◌}
+use Prim.Native.Nat.{ℕ, suc, ◌^◌, ◌<◌}
 use native.Mathlib.Omega.{arith}
-use native.Mathlib.Nat.{not-suc-le-zero, le_of_lt}
+use native.Mathlib.Nat.{le_of_lt}
 use mir.Syntax.{w64}
 use mir.Val.{SFits, to_z, of_z}
 use Rattle.integers.specs.Size.{Small}
+use Rattle.integers.proofs.Tests.{t_eq, i_fits, m_yes, m_no}
 use Rattle.integers.proofs.Machine.{Mach, m_add, m_neg, m_back, m_small, m_fits, m_eq}
 use mathlib.Core.List.{[], ◌∷◌}
-use lib.Dec.{ltb, ltb→lt}
-use lib.IntN.{ℤ, pos, negsuc, nat_abs, neg_ℤ, ◌-ℤ◌, ◌*ℤ◌, *ℤ_comm, *ℤ-zero, +ℤ_invr}
-use lib.Signed.{lt_z, ◌≤ℤ◌, ◌<ℤ◌}
+use lib.Dec.{eqb, ltb}
+use lib.IntN.{ℤ, pos, negsuc, nat_abs, neg_ℤ, ◌-ℤ◌, ◌*ℤ◌, *ℤ_comm, +ℤ_invr}
+use lib.Signed.{lt_z, ◌<ℤ◌}
 use borrow.Author.Tests.{lt-ltb, le-ltb, ltb-true}
 use Rattle.integers.proofs.Ring.{neg-*ℤ, *ℤ_idr}
 use Rattle.integers.proofs.Identity.{terms}
@@ -20,35 +21,32 @@ use Rattle.integers.proofs.Order.{<_cert}
 use Rattle.orientation.specs.declared.Orientation.TheVariants.{CoLinear}
 use Rattle.orientation.proofs.Signs.{turn_above, turn_below, turn_neither}
 use Rattle.orientation.specs.Turn.{turn_of, is_straight}
-use Rattle.fractions.specs.declared.Order.{Order}
-use Rattle.fractions.specs.declared.Order.TheVariants.{Less, Equal, Greater}
+use Rattle.std.specs.Ordering.{is_eq}
+use Rattle.std.specs.declared.cmp.Ordering.{Ordering}
+use Rattle.std.specs.declared.cmp.Ordering.TheVariants.{Less, Equal, Greater}
 use Rattle.fractions.specs.declared.Fraction.{Fraction}
 use Rattle.fractions.specs.declared.Point.{Point}
 use Rattle.fractions.specs.Order.{order}
 use Rattle.fractions.specs.Fraction.{above, ratio_order, fraction_order}
 use Rattle.fractions.specs.Point.{Bounded, point_order}
-use Rattle.fractions.proofs.Orders.{less_order, equal_order, greater_order}
+use Rattle.fractions.proofs.Orders.{Answer, is_less_lem, is_equal_lem, is_greater, answer, order_less, order_equal, order_greater, less_order, equal_order, greater_order}
 use Rattle.line_segment.specs.declared.EndPoint.{EndPoint}
 use Rattle.line_segment.specs.declared.LineSegment.{LineSegment}
 use Rattle.line_segment.specs.Piece.{point_of}
 use Rattle.line_segment.specs.Geometry.{run, rise, side}
 use Rattle.line_segment.specs.Segment.{inner_between, in_bounds, contains_of}
 use Rattle.line_segment.proofs.Ends.{pair_order}
-use Rattle.line_segment.proofs.Booleans.{both, and_false, false_and}
+use Rattle.line_segment.proofs.Booleans.{both, all_but_last, stops_early}
 
 -- ---- bounds
-module _ (p : Point) {m : ℕ} {u : ℤ} (x : m ≡ nat_abs u) (e : u ≡ p.x) where
-  pub bounds_last : {n : ℕ} {v : ℤ} → n ≡ nat_abs v → v ≡ p.y → p.d < 2 ^ 33 → m < 2 ^ 48 → ltb n (2 ^ 48) ≡ in_bounds p
+module _ (p : Point) {v : Bool} (e : v ≡ (ltb p.d (2 ^ 33) && ltb (nat_abs p.x) (2 ^ 48))) where
+  pub bounds_last : v ≡ true → {n : ℕ} → n ≡ nat_abs p.y → ltb n (2 ^ 48) ≡ in_bounds p
   unfolding in_bounds
-  bounds_last y f h k = rw (lt-ltb _ _ h, ← e, ← x, lt-ltb _ _ k, y, f)
+  bounds_last f y = rw y (all_but_last (ltb p.d (2 ^ 33)) (ltb (nat_abs p.x) (2 ^ 48)) (ltb (nat_abs p.y) (2 ^ 48)) (sym e ∙ f))
 
-  pub wide_x : 2 ^ 48 ≤ m → false ≡ in_bounds p
+  pub bounds_early : v ≡ false → v ≡ in_bounds p
   unfolding in_bounds
-  wide_x k = rw (← e, ← x, le-ltb _ _ k, and_false (ltb p.d (2 ^ 33)) refl)
-
-pub wide_d : (p : Point) → 2 ^ 33 ≤ p.d → false ≡ in_bounds p
-unfolding in_bounds
-wide_d p k = rw (le-ltb _ _ k)
+  bounds_early f = f ∙ stops_early (ltb p.d (2 ^ 33)) (ltb (nat_abs p.x) (2 ^ 48)) (ltb (nat_abs p.y) (2 ^ 48)) (sym e ∙ f)
 
 pub bounded : (p : Point) → in_bounds p ≡ true → Bounded p
 unfolding in_bounds
@@ -67,10 +65,6 @@ module _ (e : EndPoint) (p : Point) {a b x y c d : ℤ} (h : a ≡ c *ℤ pos p.
   unfolding point_of point_order ratio_order
   end_point_is = rw (h, k, f, g, u, v) (simp *ℤ_idr)
 
-  pub point_end_is : pair_order x y a b ≡ point_order p (point_of e)
-  unfolding point_of point_order ratio_order
-  point_end_is = rw (h, k, f, g, u, v) (simp *ℤ_idr)
-
 -- ---- a point less an end
 module _ (x : ℤ) {y : ℤ} (h : nat_abs x < 2 ^ 48) (k : Small (2 ^ 48) y) where
   abbrev reading : Mach (to_z w64 (of_z w64 x) -ℤ to_z w64 (of_z w64 y))
@@ -83,25 +77,15 @@ module _ (x : ℤ) {y : ℤ} (h : nat_abs x < 2 ^ 48) (k : Small (2 ^ 48) y) whe
   offset_is e = m_eq (m_back w64 reading) tt ∙ ap (λ (w : ℤ). x -ℤ w) e
 
 -- ---- a product by sign and size
-under_zero : (p q : ℤ) → p <ℤ pos 0 → cond (lt_z (pos 0) q) (neg_ℤ (pos (nat_abs p))) (pos (nat_abs p)) *ℤ pos (nat_abs q) ≡ p *ℤ q
-under_zero (pos a) q h = absurd (not-suc-le-zero (ltb→lt a 0 h.lt))
-under_zero (negsuc a) (pos zero) h = *ℤ-zero (pos (suc a)) ∙ sym (*ℤ-zero (negsuc a))
-under_zero (negsuc a) (pos (suc b)) h = rw (lt-ltb 0 (suc b) (omega arith))
-under_zero (negsuc a) (negsuc b) h = refl
+signed_product : (p q : ℤ) → cond (not (beq (lt_z p (pos 0)) (lt_z q (pos 0)))) (neg_ℤ (pos (nat_abs p))) (pos (nat_abs p)) *ℤ pos (nat_abs q) ≡ p *ℤ q
+signed_product (pos a) (pos b) = rw (le-ltb a 0 (omega arith), le-ltb b 0 (omega arith))
+signed_product (pos a) (negsuc b) = rw (le-ltb a 0 (omega arith)) (neg-*ℤ (pos a) (pos (suc b)))
+signed_product (negsuc a) (pos b) = rw (le-ltb b 0 (omega arith))
+signed_product (negsuc a) (negsuc b) = refl
 
-from_zero : (p q : ℤ) → pos 0 ≤ℤ p → cond (lt_z q (pos 0)) (neg_ℤ (pos (nat_abs p))) (pos (nat_abs p)) *ℤ pos (nat_abs q) ≡ p *ℤ q
-from_zero (pos a) (pos b) h = rw (le-ltb b 0 (omega arith))
-from_zero (pos a) (negsuc b) h = neg-*ℤ (pos a) (pos (suc b))
-from_zero (negsuc a) q h = absurd h.le
-
-module _ (p q : ℤ) (u : ℕ) {n : ℕ} (e : n ≡ nat_abs p) {q' : ℤ} (f : q' ≡ q) where
-  pub share_below : p <ℤ pos 0 → above (record { negative = lt_z (pos 0) q'; over = n; under = u }) *ℤ pos (nat_abs q) ≡ p *ℤ q
-  unfolding above
-  share_below h = rw (e, f) (under_zero p q h)
-
-  pub share_above : pos 0 ≤ℤ p → above (record { negative = lt_z q' (pos 0); over = n; under = u }) *ℤ pos (nat_abs q) ≡ p *ℤ q
-  unfolding above
-  share_above h = rw (e, f) (from_zero p q h)
+pub share_is : (p q : ℤ) (u : ℕ) {n : ℕ} {p' q' : ℤ} → n ≡ nat_abs p → p' ≡ p → q' ≡ q → above (record { negative = not (beq (lt_z p' (pos 0)) (lt_z q' (pos 0))); over = n; under = u }) *ℤ pos (nat_abs q) ≡ p *ℤ q
+unfolding above
+share_is p q u e f g = rw (e, f, g) (signed_product p q)
 
 -- a number as its bits have it
 abbrev pub bits : ℤ → ℤ
@@ -118,7 +102,7 @@ product_order p q u v s t e f g h =
 pub same_order : {p q u v p' q' u' v' : ℤ} → p ≡ p' → q ≡ q' → u ≡ u' → v ≡ v' → order (p *ℤ q) (u *ℤ v) ≡ order (p' *ℤ q') (u' *ℤ v')
 same_order e f g h i = order (e i *ℤ f i) (g i *ℤ h i)
 
-module _ (x y : ℤ) {o : Order} (e : o ≡ order x y) where
+module _ (x y : ℤ) {o : Ordering} (e : o ≡ order x y) where
   pub less_apart : o ≡ Less → false ≡ is_straight (turn_of (x -ℤ y))
   less_apart f = rw (turn_below (under x y (less_order x y (sym e ∙ f))))
     where
@@ -134,19 +118,43 @@ module _ (x y : ℤ) {o : Order} (e : o ≡ order x y) where
       turn_zero : x ≡ y → turn_of (x -ℤ y) ≡ CoLinear
       turn_zero d = ap turn_of (ap (λ (z : ℤ). x -ℤ z) (sym d) ∙ +ℤ_invr x) ∙ turn_neither (record { le = tt }) (record { le = tt })
 
+  pub equal_tells : is_eq o ≡ is_straight (turn_of (x -ℤ y))
+  equal_tells = go o refl
+    where
+      go : (p : Ordering) → o ≡ p → is_eq p ≡ is_straight (turn_of (x -ℤ y))
+      go Less f = less_apart f
+      go Equal f = equal_straight f
+      go Greater f = greater_apart f
+
+apart_turned : (x y : ℤ) → (x ≡ y → ⊥) → false ≡ is_straight (turn_of (x -ℤ y))
+apart_turned x y d = go (answer x y)
+  where
+    go : {o : Ordering} → Answer x y o → false ≡ is_straight (turn_of (x -ℤ y))
+    go (is_less_lem h) = less_apart x y refl (order_less h)
+    go (is_equal_lem e) = absurd (d e)
+    go (is_greater h) = greater_apart x y refl (order_greater h)
+
+-- two numbers that fit are equal where their bits are
+pub plain_tells : (a b : ℤ) {x y : ℤ} → SFits w64 a → SFits w64 b → a ≡ x → b ≡ y → eqb (of_z w64 a) (of_z w64 b) ≡ is_straight (turn_of (x -ℤ y))
+plain_tells a b {x} {y} f g h k = go _ refl
+  where
+    go : (t : Bool) → eqb (of_z w64 a) (of_z w64 b) ≡ t → t ≡ is_straight (turn_of (x -ℤ y))
+    go true e = equal_straight x y refl (order_equal (sym h ∙ m_yes e (t_eq w64 (i_fits f) (i_fits g)) tt ∙ k))
+    go false e = apart_turned x y (λ d. m_no e (t_eq w64 (i_fits f) (i_fits g)) tt (h ∙ d ∙ sym k))
+
 -- ---- the three questions
-module _ (s : LineSegment) (p : Point) where
-  pub holds_between : in_bounds p ≡ true → is_straight (turn_of (side s p)) ≡ true → {r : Bool} → r ≡ inner_between p s.min s.max → r ≡ contains_of s p
-  unfolding contains_of
-  holds_between h k e = e ∙ rw (h, k)
+pub holds_between : (s : LineSegment) (p : Point) → in_bounds p ≡ true → is_straight (turn_of (side s p)) ≡ true → {r : Bool} → r ≡ inner_between p s.min s.max → r ≡ contains_of s p
+unfolding contains_of
+holds_between s p h k e = e ∙ rw (h, k)
 
-  pub off_line : is_straight (turn_of (side s p)) ≡ false → false ≡ contains_of s p
+module _ (s : LineSegment) (p : Point) {v : Bool} (e : v ≡ (in_bounds p && is_straight (turn_of (side s p)))) where
+  pub holds_last : v ≡ true → {r : Bool} → r ≡ inner_between p s.min s.max → r ≡ contains_of s p
   unfolding contains_of
-  off_line k = rw (and_false (in_bounds p) (false_and (inner_between p s.min s.max) k))
+  holds_last f g = rw g (all_but_last (in_bounds p) (is_straight (turn_of (side s p))) (inner_between p s.min s.max) (sym e ∙ f))
 
-  pub out_of_bounds : in_bounds p ≡ false → false ≡ contains_of s p
+  pub holds_early : v ≡ false → v ≡ contains_of s p
   unfolding contains_of
-  out_of_bounds h = rw h
+  holds_early f = f ∙ stops_early (in_bounds p) (is_straight (turn_of (side s p))) (inner_between p s.min s.max) (sym e ∙ f)
 
 -- the line's determinant from its factors
 pub side_is : (s : LineSegment) (p : Point) {r y q x c d : ℤ} → c ≡ s.min.x → d ≡ s.min.y

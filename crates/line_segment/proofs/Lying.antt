@@ -9,8 +9,8 @@ use lib.IntN.{ℤ, pos, ◌+ℤ◌, ◌-ℤ◌, ◌*ℤ◌, zero-*ℤ}
 use Rattle.integers.proofs.Identity.{by_ring, terms}
 use Rattle.integers.proofs.Factors.{zero_product}
 use Rattle.integers.proofs.Naturals.{pos_injective}
-use Rattle.fractions.specs.declared.Order.{Order}
-use Rattle.fractions.specs.declared.Order.TheVariants.{Less, Equal, Greater}
+use Rattle.std.specs.declared.cmp.Ordering.{Ordering}
+use Rattle.std.specs.declared.cmp.Ordering.TheVariants.{Less, Equal, Greater}
 use Rattle.fractions.specs.declared.Point.{Point}
 use Rattle.fractions.specs.Point.{point_order}
 use Rattle.fractions.proofs.Points.{Places, same, places, point_itself, point_alike, point_alike'}
@@ -56,12 +56,12 @@ module _ (s : LineSegment) (p q : Point) (hp : 0 < p.d) (hq : 0 < q.d) (e : poin
   same_lies h =
       record {
         line = same_side h.line;
-        from = ap (λ (o : Order). admits o s.min.included) (sym (point_alike' (point_of s.min) p q hp hq e)) ∙ h.from;
-        upto = ap (λ (o : Order). admits o s.max.included) (sym (point_alike p q (point_of s.max) hp hq e)) ∙ h.upto;
+        from = ap (λ (o : Ordering). admits o s.min.included) (sym (point_alike' (point_of s.min) p q hp hq e)) ∙ h.from;
+        upto = ap (λ (o : Ordering). admits o s.max.included) (sym (point_alike p q (point_of s.max) hp hq e)) ∙ h.upto;
       }
 
 -- ---- what an end admits
-pub admits_closed : (o : Order) (m : Bool) → admits o m ≡ true → admits o true ≡ true
+pub admits_closed : (o : Ordering) (m : Bool) → admits o m ≡ true → admits o true ≡ true
 admits_closed Less m e = refl
 admits_closed Equal m e = refl
 admits_closed Greater m e = e
@@ -76,12 +76,12 @@ lies_closed s p h =
     }
 
 -- with the ends counted in: on the line, and at most so far
-pub not_after : (o : Order) (m : Bool) → admits o m ≡ true → ¬ (o ≡ Greater)
+pub not_after : (o : Ordering) (m : Bool) → admits o m ≡ true → ¬ (o ≡ Greater)
 not_after Less m e g = no (cc)
 not_after Equal m e g = no (cc)
 not_after Greater m e g = no (cc)
 
-pub admits_at_most : (o : Order) → ¬ (o ≡ Greater) → admits o true ≡ true
+pub admits_at_most : (o : Ordering) → ¬ (o ≡ Greater) → admits o true ≡ true
 admits_at_most Less f = refl
 admits_at_most Equal f = refl
 admits_at_most Greater f = absurd (f refl)

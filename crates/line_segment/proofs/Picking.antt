@@ -3,8 +3,8 @@ use mathlib.Core.Path.{◌≡◌, refl, sym, ap, ◌∙◌}
 use mathlib.Core.Logic.{◌↔◌, ◌⊎◌, inl, inr}
 use mathlib.Core.Bool.{Bool, true, false, cond}
 use Prim.Native.Nat.{◌<◌}
-use Rattle.fractions.specs.declared.Order.{Order}
-use Rattle.fractions.specs.declared.Order.TheVariants.{Less, Equal, Greater}
+use Rattle.std.specs.declared.cmp.Ordering.{Ordering}
+use Rattle.std.specs.declared.cmp.Ordering.TheVariants.{Less, Equal, Greater}
 use Rattle.fractions.specs.declared.Point.{Point}
 use Rattle.fractions.specs.Order.{turned}
 use Rattle.fractions.specs.Point.{point_order}
@@ -18,25 +18,25 @@ use Rattle.line_segment.proofs.Booleans.{no, clash}
 use Rattle.line_segment.proofs.Lying.{whole, not_after}
 
 -- ---- `o` tells how each end comes to a point; ef how e comes to f
-module _ (o : EndPoint → Order) (e f : EndPoint) where
+module _ (o : EndPoint → Ordering) (e f : EndPoint) where
   abbrev Admits : EndPoint → Type 0
   Admits x = admits (o x) x.included ≡ true
 
   of_equals : o e ≡ o f → (m : Bool) → e.included ≡ m → Admits (cond m f e) ↔ (Admits e × Admits f)
   of_equals alike true i = ((λ h. (rw (alike, i) (widen (o f) f.included h), h)), (λ h. h.1))
     where
-      widen : (o : Order) (m : Bool) → admits o m ≡ true → admits o true ≡ true
+      widen : (o : Ordering) (m : Bool) → admits o m ≡ true → admits o true ≡ true
       widen Less m h = refl
       widen Equal m h = refl
       widen Greater m h = h
   of_equals alike false i = ((λ h. (h, narrow (o f) f.included (rw (alike, i) at h))), (λ h. h.0))
     where
-      narrow : (o : Order) (m : Bool) → admits o false ≡ true → admits o m ≡ true
+      narrow : (o : Ordering) (m : Bool) → admits o false ≡ true → admits o m ≡ true
       narrow Less m h = refl
       narrow Equal m h = clash h
       narrow Greater m h = h
 
-  pick : (ef : Order)
+  pick : (ef : Ordering)
       → (ef ≡ Less → ¬ (o f ≡ Greater) → o e ≡ Less) → (ef ≡ Equal → o e ≡ o f) → (ef ≡ Greater → ¬ (o e ≡ Greater) → o f ≡ Less)
       → Admits (right_by ef e f) ↔ (Admits e × Admits f)
   unfolding right_by
@@ -45,7 +45,7 @@ module _ (o : EndPoint → Order) (e f : EndPoint) where
   pick Greater l q g = ((λ h. (h, rw (g refl (not_after (o e) e.included h)))), (λ h. h.0))
 
 -- the end picked is one of the two
-one_of : (e f : EndPoint) (ef : Order) → (right_by ef e f ≡ e) ⊎ (right_by ef e f ≡ f)
+one_of : (e f : EndPoint) (ef : Ordering) → (right_by ef e f ≡ e) ⊎ (right_by ef e f ≡ f)
 unfolding right_by
 one_of e f Less = inr refl
 one_of e f Equal = go e.included
@@ -75,19 +75,19 @@ at_one_point e f q = go (rw q at (places (point_of e) (point_of f)))
     go : Places (point_of e) (point_of f) Equal → exclusive_of e f ≡ exclusive_of f e
     go (same x y) = exclusive_turned e f (sym (*ℤ_idr e.x) ∙ x ∙ *ℤ_idr f.x) (sym (*ℤ_idr e.y) ∙ y ∙ *ℤ_idr f.y)
 
-right_turned : (e f : EndPoint) (o : Order) → end_order e f ≡ o → right_by o e f ≡ right_by (turned o) f e
+right_turned : (e f : EndPoint) (o : Ordering) → end_order e f ≡ o → right_by o e f ≡ right_by (turned o) f e
 unfolding right_by
 right_turned e f Less q = refl
 right_turned e f Equal q = at_one_point e f q
 right_turned e f Greater q = refl
 
-left_turned : (e f : EndPoint) (o : Order) → end_order e f ≡ o → left_by o e f ≡ left_by (turned o) f e
+left_turned : (e f : EndPoint) (o : Ordering) → end_order e f ≡ o → left_by o e f ≡ left_by (turned o) f e
 unfolding left_by
 left_turned e f Less q = refl
 left_turned e f Equal q = at_one_point e f q
 left_turned e f Greater q = refl
 
-left_is : (o : Order) (e f : EndPoint) → left_by o e f ≡ right_by (turned o) e f
+left_is : (o : Ordering) (e f : EndPoint) → left_by o e f ≡ right_by (turned o) e f
 unfolding left_by right_by
 left_is Less e f = refl
 left_is Equal e f = refl
@@ -115,12 +115,12 @@ module _ (e f : EndPoint) where
         (λ q. point_alike' p (point_of e) (point_of f) (whole e) (whole f) (level q))
         (λ l g. at_most_less p (point_of e) (point_of f) d (whole e) (whole f) g (sym (turned_twice (point_order (point_of e) (point_of f))) ∙ ap turned l)))
       where
-        turned_twice : (o : Order) → turned (turned o) ≡ o
+        turned_twice : (o : Ordering) → turned (turned o) ≡ o
         turned_twice Less = refl
         turned_twice Equal = refl
         turned_twice Greater = refl
 
-        level : {o : Order} → turned o ≡ Equal → o ≡ Equal
+        level : {o : Ordering} → turned o ≡ Equal → o ≡ Equal
         level {o} q = sym (turned_twice o) ∙ ap turned q
 
   pub rightmost_is : (rightmost_of e f ≡ e) ⊎ (rightmost_of e f ≡ f)
@@ -137,18 +137,18 @@ module _ (e f : EndPoint) where
 
   pub rightmost_turned : rightmost_of e f ≡ rightmost_of f e
   unfolding rightmost_of
-  rightmost_turned = right_turned e f (end_order e f) refl ∙ ap (λ (o : Order). right_by o f e) (sym end_turned)
+  rightmost_turned = right_turned e f (end_order e f) refl ∙ ap (λ (o : Ordering). right_by o f e) (sym end_turned)
 
   pub leftmost_turned : leftmost_of e f ≡ leftmost_of f e
   unfolding leftmost_of
-  leftmost_turned = left_turned e f (end_order e f) refl ∙ ap (λ (o : Order). left_by o f e) (sym end_turned)
+  leftmost_turned = left_turned e f (end_order e f) refl ∙ ap (λ (o : Ordering). left_by o f e) (sym end_turned)
 
   -- no end comes after the rightmost, nor before the leftmost
   pub rightmost_after : ¬ (point_order (point_of e) (point_of (rightmost_of e f)) ≡ Greater)
   unfolding rightmost_of right_by end_order
   rightmost_after = go (point_order (point_of e) (point_of f)) refl (point_itself (point_of e))
     where
-      go : (o : Order) → point_order (point_of e) (point_of f) ≡ o → point_order (point_of e) (point_of e) ≡ Equal → ¬ (point_order (point_of e) (point_of (right_by o e f)) ≡ Greater)
+      go : (o : Ordering) → point_order (point_of e) (point_of f) ≡ o → point_order (point_of e) (point_of e) ≡ Equal → ¬ (point_order (point_of e) (point_of (right_by o e f)) ≡ Greater)
       go Less q i g = no (cc)
       go Equal q i g = pair e.included g
         where
@@ -161,10 +161,10 @@ module _ (e f : EndPoint) where
   unfolding leftmost_of left_by end_order
   leftmost_before = go (point_order (point_of e) (point_of f)) refl (point_itself (point_of e))
     where
-      back : {o : Order} → point_order (point_of e) (point_of f) ≡ o → point_order (point_of f) (point_of e) ≡ turned o
+      back : {o : Ordering} → point_order (point_of e) (point_of f) ≡ o → point_order (point_of f) (point_of e) ≡ turned o
       back q = point_turned (point_of e) (point_of f) ∙ ap turned q
 
-      go : (o : Order) → point_order (point_of e) (point_of f) ≡ o → point_order (point_of e) (point_of e) ≡ Equal → ¬ (point_order (point_of (left_by o e f)) (point_of e) ≡ Greater)
+      go : (o : Ordering) → point_order (point_of e) (point_of f) ≡ o → point_order (point_of e) (point_of e) ≡ Equal → ¬ (point_order (point_of (left_by o e f)) (point_of e) ≡ Greater)
       go Less q i g = no (cc)
       go Equal q i g = pair e.included (back q) g
         where

@@ -6,8 +6,8 @@ use lib.IntN.{ℤ, pos}
 use Rattle.integers.proofs.Order.{<→≢, Tri, less, same, more, tri}
 use Rattle.orientation.specs.Turn.{turn_of, is_straight}
 use Rattle.orientation.proofs.Signs.{turn_above, turn_below, turn_neither}
-use Rattle.fractions.specs.declared.Order.{Order}
-use Rattle.fractions.specs.declared.Order.TheVariants.{Less, Equal, Greater}
+use Rattle.std.specs.declared.cmp.Ordering.{Ordering}
+use Rattle.std.specs.declared.cmp.Ordering.TheVariants.{Less, Equal, Greater}
 use Rattle.fractions.specs.declared.Point.{Point}
 use Rattle.fractions.specs.Point.{point_order}
 use Rattle.fractions.specs.Order.{turned as turned_order}
@@ -44,7 +44,7 @@ module _ (a b : LineSegment) where
   unfolding stretch_of stretch_by
   stretch_never = never (end_order _ _) _
     where
-      never : (o : Order) (s : LineSegment) → stretch_by o s ≡ Crossing → ⊥
+      never : (o : Ordering) (s : LineSegment) → stretch_by o s ≡ Crossing → ⊥
       never Less s e = no (cc)
       never Equal s e = marked (s.max.included && s.min.included) e
         where

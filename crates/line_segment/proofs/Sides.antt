@@ -6,7 +6,7 @@ use lib.IntN.{ℤ, pos, ◌+ℤ◌, ◌-ℤ◌, ◌*ℤ◌, -ℤ-+ℤ_cancel, +�
 use Rattle.integers.proofs.Identity.{by_ring, terms}
 use Rattle.integers.proofs.Factors.{zero_product}
 use Rattle.fractions.specs.Point.{point_order}
-use Rattle.fractions.specs.declared.Order.TheVariants.{Equal}
+use Rattle.std.specs.declared.cmp.Ordering.TheVariants.{Equal}
 use Rattle.fractions.specs.declared.Point.{Point}
 use Rattle.fractions.proofs.Points.{placed, same}
 use Rattle.line_segment.specs.declared.LineSegment.{LineSegment}

@@ -10,8 +10,8 @@ use lib.Signed.{◌<ℤ◌}
 use Rattle.integers.proofs.Identity.{by_ring, terms}
 use Rattle.integers.proofs.Signs.{<_diff}
 use Rattle.integers.proofs.Order.{<_cert}
-use Rattle.fractions.specs.declared.Order.{Order}
-use Rattle.fractions.specs.declared.Order.TheVariants.{Less, Equal, Greater}
+use Rattle.std.specs.declared.cmp.Ordering.{Ordering}
+use Rattle.std.specs.declared.cmp.Ordering.TheVariants.{Less, Equal, Greater}
 use Rattle.fractions.specs.declared.Point.{Point}
 use Rattle.fractions.specs.Point.{point_order}
 use Rattle.fractions.proofs.Points.{Places, left, below, places, placed, point_itself, less_at_most, at_most_less, at_most_trans}
@@ -129,7 +129,7 @@ module _ (a b : LineSegment) (la : HasLength a) (lb : HasLength b) (o : OneLine 
       inc true e = refl
       inc false e = clash e
 
-      go : (q : Order) → point_order (point_of (stretch a b).min) (point_of (stretch a b).max) ≡ q → says_yes (stretch_by q (stretch a b)) ≡ true → Meet a b
+      go : (q : Ordering) → point_order (point_of (stretch a b).min) (point_of (stretch a b).max) ≡ q → says_yes (stretch_by q (stretch a b)) ≡ true → Meet a b
       go Less q e = (
         middle (stretch a b).min (stretch a b).max,
         spanned_common _ (omega arith)
@@ -162,11 +162,11 @@ module _ (a b : LineSegment) (la : HasLength a) (lb : HasLength b) (o : OneLine 
     runs : ¬ (point_order first last ≡ Greater)
     runs = at_most_trans first p last (whole (stretch a b).min) d (whole (stretch a b).max) from_at_most upto_at_most
 
-    no_less : {o : Order} → o ≡ Less → o ≡ Equal → ⊥
+    no_less : {o : Ordering} → o ≡ Less → o ≡ Equal → ⊥
     no_less e f = no (cc)
 
     -- where the stretch is one point, both ends count
-    closes : (o : Order) (m : Bool) → admits o m ≡ true → ¬ (o ≡ Less) → m ≡ true
+    closes : (o : Ordering) (m : Bool) → admits o m ≡ true → ¬ (o ≡ Less) → m ≡ true
     closes Less m e ne = absurd (ne refl)
     closes Equal m e ne = e
     closes Greater m e ne = clash e
@@ -186,7 +186,7 @@ module _ (a b : LineSegment) (la : HasLength a) (lb : HasLength b) (o : OneLine 
       the_point : point_order first p ≡ Equal
       the_point = sole (point_order first p) refl
         where
-          sole : (o : Order) → point_order first p ≡ o → point_order first p ≡ Equal
+          sole : (o : Ordering) → point_order first p ≡ o → point_order first p ≡ Equal
           sole Less e = absurd (not_past e)
           sole Equal e = e
           sole Greater e = absurd (from_at_most e)
@@ -195,7 +195,7 @@ module _ (a b : LineSegment) (la : HasLength a) (lb : HasLength b) (o : OneLine 
     unfolding stretch_of stretch_by end_order
     spanned_yes = go (point_order first last) refl
       where
-        go : (q : Order) → point_order first last ≡ q → says_yes (stretch_by q (stretch a b)) ≡ true
+        go : (q : Ordering) → point_order first last ≡ q → says_yes (stretch_by q (stretch a b)) ≡ true
         go Less q = refl
         go Equal q = rw (max_counts q, min_counts q)
         go Greater q = absurd (runs q)
@@ -213,7 +213,7 @@ module _ (a b : LineSegment) (la : HasLength a) (lb : HasLength b) (o : OneLine 
   lies_spanned : (p : Point) → 0 < p.d → LiesOn (stretch a b) p → Spanned p
   lies_spanned p d h = record { line = go (point_order (point_of (stretch a b).min) (point_of (stretch a b).max)) refl; from = h.from; upto = h.upto }
     where
-      go : (q : Order) → point_order (point_of (stretch a b).min) (point_of (stretch a b).max) ≡ q → side a p ≡ pos 0
+      go : (q : Ordering) → point_order (point_of (stretch a b).min) (point_of (stretch a b).max) ≡ q → side a p ≡ pos 0
       go Less q = carried a (stretch a b) p (leads (stretch a b) (unfold end_order in q)) on_line h.line
       go Equal q = same_side a (point_of (stretch a b).min) p (whole (stretch a b).min) d (the_point p d h.from h.upto q) min_line
       go Greater q = absurd (runs p d h.from h.upto q)
@@ -277,7 +277,7 @@ module _ (a b : LineSegment) (la : HasLength a) (lb : HasLength b) (o : OneLine 
   unfolding stretch_of stretch_by end_order
   overlap_part t e = let r = go (point_order (point_of (stretch a b).min) (point_of (stretch a b).max)) refl e in subst (CommonPart a b) r.0 (common_part r.1)
     where
-      go : (q : Order) → point_order (point_of (stretch a b).min) (point_of (stretch a b).max) ≡ q → stretch_by q (stretch a b) ≡ Overlap t
+      go : (q : Ordering) → point_order (point_of (stretch a b).min) (point_of (stretch a b).max) ≡ q → stretch_by q (stretch a b) ≡ Overlap t
           → (stretch a b ≡ t) × ¬ (point_order (point_of (stretch a b).min) (point_of (stretch a b).max) ≡ Greater)
       go Less q e = (cc, λ g. no (cc))
       go Equal q e = (marked ((stretch a b).max.included && (stretch a b).min.included) e, λ g. no (cc))

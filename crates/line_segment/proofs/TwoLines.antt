@@ -11,8 +11,8 @@ use Rattle.integers.proofs.Signs.{<_diff, <→≤, n+p, p+n, p+p, n*n, p*p}
 use Rattle.integers.proofs.Order.{<_cert, <→≢, ≡→≤, neg-<, Tri, less, same, more, tri}
 use Rattle.integers.proofs.Factors.{p/p, zero_product}
 use Rattle.integers.proofs.Naturals.{pos-<}
-use Rattle.fractions.specs.declared.Order.{Order}
-use Rattle.fractions.specs.declared.Order.TheVariants.{Less}
+use Rattle.std.specs.declared.cmp.Ordering.{Ordering}
+use Rattle.std.specs.declared.cmp.Ordering.TheVariants.{Less}
 use Rattle.fractions.specs.declared.Point.{Point}
 use Rattle.fractions.specs.Point.{point_order}
 use Rattle.fractions.proofs.Orders.{Answer, is_less_lem, is_equal_lem, is_greater, answer, order_less}
@@ -152,10 +152,10 @@ module _ (a b : LineSegment) (p : Point) (l : Leads b) (d : 0 < p.d) (on_a : sid
   pub outside : LiesOn b p → OneSided (side a (point_of b.min)) (side a (point_of b.max)) → ⊥
   outside h =
       not_one_sided _ _ _ _ _ balance total long
-      (ahead b.max.included (answer (pos 0) (short b p)) (ap (λ (o : Order). admits o b.max.included) (sym (short_order b p l on_b)) ∙ h.upto))
-      (ahead b.min.included (answer (pos 0) (past b p)) (ap (λ (o : Order). admits o b.min.included) (sym (past_order b p l on_b)) ∙ h.from))
+      (ahead b.max.included (answer (pos 0) (short b p)) (ap (λ (o : Ordering). admits o b.max.included) (sym (short_order b p l on_b)) ∙ h.upto))
+      (ahead b.min.included (answer (pos 0) (past b p)) (ap (λ (o : Ordering). admits o b.min.included) (sym (past_order b p l on_b)) ∙ h.from))
     where
-      ahead : {z : ℤ} {o : Order} (m : Bool) → Answer (pos 0) z o → admits o m ≡ true → pos 0 ≤ℤ z
+      ahead : {z : ℤ} {o : Ordering} (m : Bool) → Answer (pos 0) z o → admits o m ≡ true → pos 0 ≤ℤ z
       ahead m (is_less_lem h) e = <→≤ h
       ahead m (is_equal_lem h) e = ≡→≤ h
       ahead m (is_greater h) e = no (cc)

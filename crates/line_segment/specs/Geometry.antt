@@ -1,8 +1,8 @@
 -- What it means that a point lies on a piece, from geometry alone: the line through the ends, and the order of points.
 -- A point is X/D, Y/D, and what is said of it holds for positive D.
 use Rattle.std.specs.Prelude.{◌≡◌, Bool, true, false, ◌<◌, ℤ, pos, ◌-ℤ◌, ◌*ℤ◌}
-use Rattle.fractions.specs.declared.Order.{Order}
-use Rattle.fractions.specs.declared.Order.TheVariants.{Less, Equal, Greater}
+use Rattle.std.specs.declared.cmp.Ordering.{Ordering}
+use Rattle.std.specs.declared.cmp.Ordering.TheVariants.{Less, Equal, Greater}
 use Rattle.fractions.specs.declared.Point.{Point}
 use Rattle.fractions.specs.Point.{point_order}
 use Rattle.line_segment.specs.declared.LineSegment.{LineSegment}
@@ -20,7 +20,7 @@ unfoldable pub side : LineSegment → Point → ℤ
 side s p = run s *ℤ (p.y -ℤ s.min.y *ℤ pos p.d) -ℤ rise s *ℤ (p.x -ℤ s.min.x *ℤ pos p.d)
 
 -- an end that precedes as the order says is no bar; at the end itself, it counts only where it is included
-abbrev pub admits : Order → Bool → Bool
+abbrev pub admits : Ordering → Bool → Bool
 admits Less included = true
 admits Equal included = included
 admits Greater included = false

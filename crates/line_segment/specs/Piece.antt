@@ -1,7 +1,7 @@
 -- A piece of the chart: two ends, each with its mark, in the order of points.
 use Rattle.std.specs.Prelude.{◌≡◌, Bool, true, ℕ, ◌/◌, ◌%◌, eqb, ℤ}
-use Rattle.fractions.specs.declared.Order.{Order}
-use Rattle.fractions.specs.declared.Order.TheVariants.{Less, Equal, Greater}
+use Rattle.std.specs.declared.cmp.Ordering.{Ordering}
+use Rattle.std.specs.declared.cmp.Ordering.TheVariants.{Less, Equal, Greater}
 use Rattle.fractions.specs.declared.Point.{Point}
 use Rattle.fractions.specs.Point.{point_order, whole_of}
 use Rattle.line_segment.specs.declared.EndPoint.{EndPoint}
@@ -12,7 +12,7 @@ unfoldable pub point_of : EndPoint → Point
 point_of e = whole_of e.x e.y
 
 -- "Points are ordered by x, then y."
-unfoldable pub end_order : EndPoint → EndPoint → Order
+unfoldable pub end_order : EndPoint → EndPoint → Ordering
 end_order a b = point_order (point_of a) (point_of b)
 
 -- "Kind 0 to 3: add 1 if the first end is included, 2 if the second is."
@@ -23,7 +23,7 @@ unfoldable pub second_included : ℕ → Bool
 second_included kind = eqb (kind / 2 % 2) 1
 
 -- "The lesser end is the piece's min, the other its max, and the mark travels with its end."
-unfoldable pub join_by : Order → EndPoint → EndPoint → LineSegment
+unfoldable pub join_by : Ordering → EndPoint → EndPoint → LineSegment
 join_by Less a b = record { min = a; max = b }
 join_by Equal a b = record { min = b; max = a }
 join_by Greater a b = record { min = b; max = a }

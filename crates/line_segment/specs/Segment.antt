@@ -2,8 +2,8 @@
 use Rattle.std.specs.Prelude.{Bool, cond, ◌&&◌, suc, ◌^◌, ltb, ℤ, pos, negsuc, nat_abs, neg_ℤ, ◌-ℤ◌, ◌*ℤ◌}
 use Rattle.orientation.specs.Turn.{det, turn_of, reversed, is_straight, same_turn}
 use Rattle.orientation.specs.declared.Orientation.{Orientation}
-use Rattle.fractions.specs.declared.Order.{Order}
-use Rattle.fractions.specs.declared.Order.TheVariants.{Less, Equal, Greater}
+use Rattle.std.specs.declared.cmp.Ordering.{Ordering}
+use Rattle.std.specs.declared.cmp.Ordering.TheVariants.{Less, Equal, Greater}
 use Rattle.fractions.specs.declared.Point.{Point}
 use Rattle.fractions.specs.Point.{point_order, lowest_of}
 use Rattle.line_segment.specs.declared.EndPoint.{EndPoint}
@@ -17,7 +17,7 @@ use Rattle.line_segment.specs.Geometry.{run, rise, side, admits}
 abbrev pub exclusive_of : EndPoint → EndPoint → EndPoint
 exclusive_of a b = cond a.included b a
 
-unfoldable pub left_by : Order → EndPoint → EndPoint → EndPoint
+unfoldable pub left_by : Ordering → EndPoint → EndPoint → EndPoint
 left_by Less a b = a
 left_by Equal a b = exclusive_of a b
 left_by Greater a b = b
@@ -25,7 +25,7 @@ left_by Greater a b = b
 unfoldable pub leftmost_of : EndPoint → EndPoint → EndPoint
 leftmost_of a b = left_by (end_order a b) a b
 
-unfoldable pub right_by : Order → EndPoint → EndPoint → EndPoint
+unfoldable pub right_by : Ordering → EndPoint → EndPoint → EndPoint
 right_by Less a b = b
 right_by Equal a b = exclusive_of a b
 right_by Greater a b = a
@@ -44,7 +44,7 @@ unfoldable pub inner_between : Point → EndPoint → EndPoint → Bool
 inner_between p a b = within p (join_of a b)
 
 -- "Collinear pieces: from the rightmost min to the leftmost max; `Overlap` if that runs forward, or is one point included by both."
-unfoldable pub stretch_by : Order → LineSegment → Meeting
+unfoldable pub stretch_by : Ordering → LineSegment → Meeting
 stretch_by Less s = Overlap s
 stretch_by Equal s = cond (s.max.included && s.min.included) (Overlap s) Nothing
 stretch_by Greater s = Nothing

@@ -11,7 +11,7 @@ use lib.ListN.{length}
 use Rattle.charts.specs.Chart.{most, verdict_of}
 use Rattle.charts.specs.Answer.{room}
 use Rattle.charts.specs.Piece.{piece_at}
-use Rattle.charts.specs.declared.Verdict.TheVariants.{Accepted}
+use Rattle.charts.specs.Verdict.{Accepted}
 use Rattle.charts.proofs.Accepted.{accepted_most}
 use Rattle.charts.proofs.Room.{room_least}
 use Rattle.sweep.specs.Lists.{Pair}

@@ -4,8 +4,8 @@ use mathlib.Core.Path.{◌≡◌}
 use mathlib.Core.Bool.{true}
 use Prim.Native.Nat.{ℕ}
 use native.Mathlib.Omega.{arith}
-use Rattle.fractions.specs.declared.Order.{Order}
-use Rattle.fractions.specs.declared.Order.TheVariants.{Less, Equal, Greater}
+use Rattle.std.specs.declared.cmp.Ordering.{Ordering}
+use Rattle.std.specs.declared.cmp.Ordering.TheVariants.{Less, Equal, Greater}
 use Rattle.fractions.specs.declared.Point.{Point}
 use Rattle.line_segment.specs.declared.Meeting.{Meeting}
 use Rattle.line_segment.specs.Piece.{point_of, end_order}
@@ -19,7 +19,7 @@ use Rattle.listing.specs.Listing.{largest}
 use Rattle.listing.specs.Demand.{LinesHavePlaces}
 use Rattle.listing.proofs.Counts.{lists_only}
 
-stretched : (o : Order) (p q : Point) → ¬ (along_by o p q ≡ Where.Nothing)
+stretched : (o : Ordering) (p q : Point) → ¬ (along_by o p q ≡ Where.Nothing)
 unfolding along_by
 stretched Less p q z = let c : ◌≡◌ {A = ℕ} 0 1 = cc in omega arith
 stretched Equal p q z = let c : ◌≡◌ {A = ℕ} 0 1 = cc in omega arith

@@ -10,7 +10,7 @@ use lib.Seq.{take_at}
 use Rattle.charts.specs.Chart.{most, verdict_of}
 use Rattle.charts.specs.Demand.{Due, done}
 use Rattle.charts.specs.declared.Answer.{Answer}
-use Rattle.charts.specs.declared.Verdict.TheVariants.{Accepted}
+use Rattle.charts.specs.Verdict.{Accepted}
 use Rattle.charts.proofs.Exactly.{refuses_exactly}
 use Rattle.chart_file.specs.Groups.{Bytes}
 use Rattle.chart_file.specs.Reading.{Reading, due, stopped, reading_of, answer_of, content_of, Reads}

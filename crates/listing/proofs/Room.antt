@@ -11,7 +11,7 @@ use lib.IntN.{ℤ}
 use lib.ListN.{length, length-append}
 use Rattle.charts.specs.Chart.{verdict_of}
 use Rattle.charts.specs.Piece.{piece_at}
-use Rattle.charts.specs.declared.Verdict.TheVariants.{Accepted}
+use Rattle.charts.specs.Verdict.{Accepted}
 use Rattle.charts.proofs.Accepted.{accepted_most, pieces_have_length}
 use Rattle.chart_file.specs.Reading.{Reading, due, stopped, reading_of}
 use Rattle.chart_file.proofs.Files.{reads_file}

@@ -11,7 +11,7 @@ use Rattle.charts.specs.Chart.{most, verdict_of}
 use Rattle.charts.specs.Answer.{room}
 use Rattle.charts.specs.Answer.{listing_of as verdict_for}
 use Rattle.charts.specs.Piece.{piece_at}
-use Rattle.charts.specs.declared.Verdict.TheVariants.{Accepted}
+use Rattle.charts.specs.Verdict.{Accepted}
 use Rattle.naive.proofs.Reading.{read_back}
 use Rattle.sweep.specs.Lists.{Pair}
 use Rattle.full_steps.specs.Steps.{answer}

@@ -4,7 +4,7 @@ use mathlib.Core.List.{Memᴰ as In}
 use Rattle.line_segment.specs.Demand.{Meet}
 use Rattle.charts.specs.Piece.{piece_at, no_upright}
 use Rattle.charts.specs.Chart.{verdict_of}
-use Rattle.charts.specs.declared.Verdict.TheVariants.{Accepted}
+use Rattle.charts.specs.Verdict.{Accepted}
 use Rattle.chart_file.specs.Groups.{Bytes}
 use Rattle.place.specs.declared.Where.{Where}
 use Rattle.place.specs.Place.{where_of}

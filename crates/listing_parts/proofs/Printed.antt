@@ -14,7 +14,7 @@ use Rattle.charts.specs.Chart.{most, pieces, verdict_of}
 use Rattle.charts.specs.Piece.{piece_at}
 use Rattle.charts.specs.Answer.{room}
 use Rattle.charts.specs.declared.Answer.{Answer}
-use Rattle.charts.specs.declared.Verdict.TheVariants.{Accepted}
+use Rattle.charts.specs.Verdict.{Accepted}
 use Rattle.charts.proofs.Accepted.{accepted_most}
 use Rattle.charts.proofs.Room.{room_none}
 use Rattle.chart_file.specs.Groups.{Bytes}

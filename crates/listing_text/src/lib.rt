@@ -3,11 +3,11 @@
 
 ghost use Rattle.std.specs.Prelude.{◌≡◌, ◌/◌, length};
 ghost use Rattle.charts.specs.Chart.{verdict_of};
-ghost use Rattle.charts.specs.declared.Verdict.TheVariants.{Accepted};
+ghost use Rattle.charts.specs.Verdict.{Accepted};
 ghost use Rattle.decimals.specs.Text.{text as text_of, put};
 ghost use Rattle.listing.specs.Listing.{chart_text, listing_of, listing_answer, lent_after};
 
-use charts::{Answer, MOST};
+use charts::{Answer, MOST, Reason};
 
 // The bytes of every pair of the largest chart.
 const PAIRS: usize = MOST * (MOST - 1);
@@ -49,7 +49,7 @@ pub fn put_listing(file: &[u8], text: &mut [u8]) -> Answer
     ensures { (result ≡ listing_answer file.now (length text.old)) × (text.new ≡ lent_after file.now text.old) }
 {
     if text.len() < LONGEST {
-        return chart_verdict::refused(8, 0);
+        return chart_verdict::refused(Reason::Room.at(0));
     }
     chart_verdict::done(put_file(file, text))
 }

@@ -19,7 +19,7 @@ pub fn gcd(a: u64, b: u64) -> u64
     gcd(b, a % b)
 }
 
-// The g-th part of x, its sign kept.
+// The g-th part of x, its sign kept. By size and sign: g may be beyond what an i64 holds, so x itself is not divided by it.
 fn part(x: i64, g: u64) -> i64
     requires { 1 < g }
     ensures { result ≡ quot_z x (pos g) }

@@ -6,7 +6,7 @@ use Prim.Native.Nat.{ℕ}
 use lib.IntN.{ℤ}
 use lib.ListN.{length}
 use Rattle.charts.specs.Answer.{done_with, refused_with, listing_of}
-use Rattle.charts.specs.declared.Verdict.TheVariants.{Accepted, Refused}
+use Rattle.charts.specs.Verdict.{Accepted, Refused}
 use Rattle.naive.specs.Pairs.{bytes, over}
 use Rattle.naive.specs.AllPairs.{pairs_of, all_pairs_of, lent_after}
 

@@ -12,7 +12,7 @@ use lib.ListN.{length, get_or, take, set, length-append, get_or-append}
 use lib.Seq.{take-suc-set, get_or-take, get_or_at}
 use Rattle.line_segment.specs.declared.LineSegment.{LineSegment}
 use Rattle.line_segment.specs.Piece.{HasLength}
-use Rattle.charts.specs.declared.Verdict.TheVariants.{Accepted}
+use Rattle.charts.specs.Verdict.{Accepted}
 use Rattle.charts.specs.Chart.{verdict_of}
 use Rattle.charts.specs.Piece.{piece_at}
 use Rattle.charts.proofs.Accepted.{pieces_have_length}

@@ -3,8 +3,8 @@ use Rattle.std.specs.Prelude.{Bool, List, ℕ, ℤ, length}
 use Rattle.line_segment.specs.Segment.{intersect_of}
 use Rattle.line_segment.specs.Demand.{says_yes}
 use Rattle.charts.specs.declared.Answer.{Answer}
-use Rattle.charts.specs.declared.Verdict.{Verdict}
-use Rattle.charts.specs.declared.Verdict.TheVariants.{Accepted, Refused}
+use Rattle.charts.specs.Verdict.{Verdict}
+use Rattle.charts.specs.Verdict.{Accepted, Refused}
 use Rattle.charts.specs.Piece.{piece_at}
 use Rattle.charts.specs.Answer.{answer_of, listing_of}
 use Rattle.naive.specs.Pairs.{Pair, rows, bytes, over}

@@ -2,7 +2,7 @@
 use Rattle.std.specs.Prelude.{◌≡◌, ◌⊎◌, ◌≢◌, ◌↔◌, List, ℕ, ◌<◌, ℤ}
 use mathlib.Core.List.{Memᴰ as In}
 use Rattle.line_segment.specs.Demand.{Meet}
-use Rattle.charts.specs.declared.Verdict.TheVariants.{Accepted}
+use Rattle.charts.specs.Verdict.{Accepted}
 use Rattle.charts.specs.Chart.{verdict_of}
 use Rattle.charts.specs.Piece.{piece_at}
 pub use Rattle.charts.specs.PairList.{Pairwise}

@@ -7,7 +7,6 @@ ghost use Rattle.place.specs.Pair.{place_answer_of};
 ghost use Rattle.place.specs.Place.{place_of, Held, nearest_point};
 
 use chart_pieces::piece_at;
-use charts::Verdict;
 use fractions::Point;
 use line_segment::LineSegment;
 use place::{Place, PlaceAnswer, PlacePoint, Where};
@@ -48,12 +47,12 @@ pub fn pair_place(list: &[i32]) -> PlaceAnswer
     ensures { result ≡ place_answer_of list.now }
 {
     match chart_verdict::pair_verdict_of(list) {
-        Verdict::Refused(number, place) => PlaceAnswer {
-            number,
-            place,
+        Err(refusal) => PlaceAnswer {
+            number: refusal.reason.number(),
+            place: refusal.place,
             meeting: Place::Nothing,
         },
-        Verdict::Accepted(_) => PlaceAnswer {
+        Ok(_) => PlaceAnswer {
             number: 0,
             place: 0,
             meeting: place_of(piece_at(list, 0), piece_at(list, 1)),

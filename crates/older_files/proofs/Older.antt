@@ -11,7 +11,7 @@ use lib.IntN.{ℤ, pos}
 use lib.ListN.{length}
 use Rattle.charts.specs.Fault.{outside, off_range, eq_z, same_ends, fault_of}
 use Rattle.charts.specs.Chart.{number_at, fault_at, pieces, verdict_of}
-use Rattle.charts.specs.declared.Verdict.TheVariants.{Accepted}
+use Rattle.charts.specs.Verdict.{Accepted}
 use Rattle.chart_file.specs.Groups.{value, marked, groups_at}
 use Rattle.chart_file.specs.Format.{count_of, file_of}
 use Rattle.chart_file.specs.Reading.{stopped, limited, count_at, counted, kind_at, stands_at, joined, more, numbers, with_length, piece, ended, reading_of}

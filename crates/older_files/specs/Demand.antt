@@ -1,7 +1,7 @@
 -- What is promised of files from before request 2026-07, and of newer files before an old reader.
 use Rattle.std.specs.Prelude.{◌≡◌, List, [], ◌∷◌, ℕ, ◌/◌, ◌≤◌, ◌<◌, ℤ, length}
 use Rattle.charts.specs.Chart.{verdict_of}
-use Rattle.charts.specs.declared.Verdict.TheVariants.{Accepted}
+use Rattle.charts.specs.Verdict.{Accepted}
 use Rattle.chart_file.specs.Groups.{Bytes}
 use Rattle.chart_file.specs.Format.{file_of}
 use Rattle.chart_file.specs.Reading.{due, stopped, reading_of}

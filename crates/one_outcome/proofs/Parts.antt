@@ -6,6 +6,7 @@ use mathlib.Core.Path.{refl, sym, ◌∙◌}
 use mathlib.Core.List.{List}
 use Prim.Native.Nat.{ℕ}
 use Rattle.integers.specs.Outcome.{OneResult, OneOutcome}
+use Rattle.charts.proofs.Refusals.{told_named, fault_named}
 use Rattle.chart_verdict.proofs.room_of.Reads as room_of
 use Rattle.open_changes.proofs.is_used.Reads as is_used
 use Rattle.supplied_missing.proofs.first_missing.Reads as first_missing
@@ -47,7 +48,7 @@ pub first_missing_once : OneResult first_missing.Post
 first_missing_once κ a x y s t h k = h ∙ sym k
 
 pub drawing_of_once : OneResult drawing_of.Post
-drawing_of_once κ a x y s t h k = h ∙ sym k
+drawing_of_once κ a x y s t h k = told_named x y (h ∙ sym k)
 
 pub put_pieces_once : OneOutcome put_pieces.Post (λ κ s. s.1.1.1.1.0.now)
 put_pieces_once κ a x y s t h k = (refl, h ∙ sym k)
@@ -96,7 +97,7 @@ pub need_of_once : OneResult need_of.Post
 need_of_once κ a x y s t h k = h ∙ sym k
 
 pub refusal_of_once : OneResult refusal_of.Post
-refusal_of_once κ a x y s t h k = h ∙ sym k
+refusal_of_once κ a x y s t h k = fault_named x y (h ∙ sym k)
 
 pub put_result_once : OneOutcome put_result.Post (λ κ s. s.1.0.now)
 put_result_once κ a x y s t h k = (refl, h ∙ sym k)

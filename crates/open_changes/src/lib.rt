@@ -2,10 +2,11 @@
 #![tactic(auto)]
 
 ghost use Rattle.std.specs.Prelude.{◌≡◌, ◌<◌, ◌≤◌, length};
+ghost use Rattle.charts.specs.Refusal.{number};
 ghost use Rattle.open_chart.specs.Memory.{places, memory, five, is_used, lowest_free, written};
 ghost use Rattle.open_chart.specs.Changes.{done_with, refused_with, changed_of, adding, dropping, after_adding, after_dropping, emptying_of, after_emptying};
 
-use charts::Answer;
+use charts::{Answer, Reason};
 use open_chart::{Changed, NUMBERS, PLACES};
 
 // Each number of a free place, as the calls here leave it.
@@ -21,11 +22,11 @@ fn done(piece: usize) -> Changed
     }
 }
 
-fn refused(number: u8) -> Changed
-    ensures { result ≡ refused_with number }
+fn refused(reason: Reason) -> Changed
+    ensures { result ≡ refused_with (number reason) }
 {
     Changed {
-        number,
+        number: reason.number(),
         place: 0,
         piece: 0,
     }
@@ -43,7 +44,8 @@ pub fn is_used(chart: &[i32], i: usize) -> bool
         chart[at + 2],
         chart[at + 3],
         chart[at + 4],
-    ) == 0
+    )
+    .is_none()
 }
 
 // The lowest free place, PLACES where all are used.
@@ -51,12 +53,7 @@ fn lowest_free(chart: &[i32]) -> usize
     requires { memory ≤ length chart.now }
     ensures { result ≡ lowest_free chart.now places }
 {
-    for i in 0..PLACES {
-        if !is_used(chart, i) {
-            return i;
-        }
-    }
-    PLACES
+    (0..PLACES).find(|i| !is_used(chart, *i)).unwrap_or(PLACES)
 }
 
 // Writes the five numbers of a place.
@@ -65,11 +62,7 @@ fn put(chart: &mut [i32], i: usize, kind: i32, x1: i32, y1: i32, x2: i32, y2: i3
     ensures { chart.new ≡ written chart.old i (five kind x1 y1 x2 y2) }
 {
     let at = 5 * i;
-    chart[at] = kind;
-    chart[at + 1] = x1;
-    chart[at + 2] = y1;
-    chart[at + 3] = x2;
-    chart[at + 4] = y2;
+    chart[at..at + 5].copy_from_slice(&[kind, x1, y1, x2, y2]);
 }
 
 // Makes an open chart without pieces of lent memory.
@@ -77,11 +70,9 @@ pub fn empty(chart: &mut [i32]) -> Answer
     ensures { (result ≡ emptying_of chart.old) × (chart.new ≡ after_emptying chart.old) }
 {
     if chart.len() < NUMBERS {
-        return chart_verdict::refused(8, 0);
+        return chart_verdict::refused(Reason::Room.at(0));
     }
-    for i in 0..NUMBERS {
-        chart[i] = FREE;
-    }
+    chart[..NUMBERS].fill(FREE);
     chart_verdict::done(0)
 }
 
@@ -90,15 +81,14 @@ pub fn add(chart: &mut [i32], kind: i32, x1: i32, y1: i32, x2: i32, y2: i32) -> 
     ensures { (result ≡ changed_of (adding chart.old (five kind x1 y1 x2 y2))) × (chart.new ≡ after_adding chart.old (five kind x1 y1 x2 y2)) }
 {
     if chart.len() < NUMBERS {
-        return refused(8);
+        return refused(Reason::Room);
     }
-    let fault = piece_fault::fault_of(kind, x1, y1, x2, y2);
-    if fault != 0 {
-        return refused(fault);
+    if let Some(reason) = piece_fault::fault_of(kind, x1, y1, x2, y2) {
+        return refused(reason);
     }
     let i = lowest_free(chart);
     if i == PLACES {
-        return refused(17);
+        return refused(Reason::Full);
     }
     put(chart, i, kind, x1, y1, x2, y2);
     done(i)
@@ -109,13 +99,13 @@ pub fn drop(chart: &mut [i32], piece: usize) -> Changed
     ensures { (result ≡ changed_of (dropping chart.old piece)) × (chart.new ≡ after_dropping chart.old piece) }
 {
     if chart.len() < NUMBERS {
-        return refused(8);
+        return refused(Reason::Room);
     }
     if PLACES <= piece {
-        return refused(18);
+        return refused(Reason::Unused);
     }
     if !is_used(chart, piece) {
-        return refused(18);
+        return refused(Reason::Unused);
     }
     put(chart, piece, FREE, FREE, FREE, FREE, FREE);
     done(piece)

@@ -14,7 +14,7 @@ use lib.ListN.{length, get_or, drop, length-drop, length-map, length-append, get
 use lib.Seq.{get_or-take, take-append_seam, drop-append_seam}
 use Rattle.line_segment.specs.declared.LineSegment.{LineSegment}
 use Rattle.line_segment.specs.Piece.{piece_of, HasLength}
-use Rattle.charts.specs.declared.Verdict.TheVariants.{Accepted}
+use Rattle.charts.specs.Verdict.{Accepted}
 use Rattle.charts.specs.Chart.{number_at, fault_at, pieces, verdict_of}
 use Rattle.charts.specs.Piece.{piece_at}
 use Rattle.charts.proofs.Accepted.{pieces_as_given, pieces_have_length}

@@ -7,8 +7,8 @@ use Prim.Native.Nat.{ℕ, zero, suc, ◌<◌, ◌≤◌}
 use borrow.Author.Tests.{lt-ltb, le-ltb, eq-eqb, ne_eqb}
 use lib.IntN.{ℤ}
 use lib.ListN.{length}
-use Rattle.charts.specs.declared.Verdict.{Verdict}
-use Rattle.charts.specs.declared.Verdict.TheVariants.{Accepted, Refused}
+use Rattle.charts.specs.Verdict.{Verdict}
+use Rattle.charts.specs.Verdict.{Accepted, Refused}
 use Rattle.charts.specs.Answer.{answer_of, room}
 use Rattle.charts.specs.Chart.{number_at, fault_at}
 use Rattle.charts.specs.Fault.{fault_of}

@@ -19,8 +19,8 @@ use lib.IntN.{ℤ, negsuc}
 use lib.ListN.{length}
 use Rattle.line_segment.specs.Demand.{Meet}
 use Rattle.line_segment.proofs.Promises.{says_yes_exactly}
-use Rattle.charts.specs.declared.Verdict.{Verdict}
-use Rattle.charts.specs.declared.Verdict.TheVariants.{Accepted, Refused}
+use Rattle.charts.specs.Verdict.{Verdict}
+use Rattle.charts.specs.Verdict.{Accepted, Refused}
 use Rattle.charts.specs.Answer.{room}
 use Rattle.charts.specs.Chart.{number_at, fault_at}
 use Rattle.charts.specs.Demand.{Fault, FaultOf}

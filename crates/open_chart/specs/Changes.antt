@@ -1,8 +1,8 @@
 -- What the calls that make an open chart, change it and count its pieces answer, and what they leave in its memory.
 use Rattle.std.specs.Prelude.{cond, ◌&&◌, List, ◌++◌, ℕ, zero, suc, eqb, ltb, ℤ, negsuc, length, drop, replicate}
 use Rattle.charts.specs.declared.Answer.{Answer}
-use Rattle.charts.specs.declared.Verdict.{Verdict}
-use Rattle.charts.specs.declared.Verdict.TheVariants.{Accepted, Refused}
+use Rattle.charts.specs.Verdict.{Verdict}
+use Rattle.charts.specs.Verdict.{Accepted, Refused}
 use Rattle.charts.specs.Answer.{answer_of}
 use Rattle.charts.specs.Chart.{fault_at}
 use Rattle.open_chart.specs.Memory.{places, memory, is_used, used_below, lowest_free, vacant, written}

@@ -3,8 +3,8 @@ use Rattle.std.specs.Prelude.{◌≡◌, ◌↔◌, ◌≢◌, List, ℕ, suc, �
 use mathlib.Core.List.{Memᴰ as In}
 use Rattle.line_segment.specs.Piece.{piece_of}
 use Rattle.line_segment.specs.Demand.{Meet}
-use Rattle.charts.specs.declared.Verdict.{Verdict}
-use Rattle.charts.specs.declared.Verdict.TheVariants.{Accepted, Refused}
+use Rattle.charts.specs.Verdict.{Verdict}
+use Rattle.charts.specs.Verdict.{Accepted, Refused}
 use Rattle.charts.specs.Answer.{room}
 use Rattle.charts.specs.Chart.{number_at}
 use Rattle.charts.specs.Demand.{Fault, FaultOf}

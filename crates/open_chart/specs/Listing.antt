@@ -2,8 +2,8 @@
 use Rattle.std.specs.Prelude.{◌≡◌, Bool, ◌&&◌, List, map, ◌++◌, ℕ, ℤ, length, take, drop, get_or}
 use Rattle.line_segment.specs.declared.LineSegment.{LineSegment}
 use Rattle.charts.specs.declared.Answer.{Answer}
-use Rattle.charts.specs.declared.Verdict.{Verdict}
-use Rattle.charts.specs.declared.Verdict.TheVariants.{Accepted, Refused}
+use Rattle.charts.specs.Verdict.{Verdict}
+use Rattle.charts.specs.Verdict.{Accepted, Refused}
 use Rattle.charts.specs.Answer.{answer_of, room, then_room}
 use Rattle.charts.specs.Piece.{piece_at}
 use Rattle.naive.specs.Pairs.{Pair, rows, bytes, over}

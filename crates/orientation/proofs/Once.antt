@@ -4,11 +4,10 @@ use Rattle.integers.specs.Outcome.{OneResult}
 use Rattle.orientation.proofs.span.Reads as span
 use Rattle.orientation.proofs.determinant.Reads as determinant
 use Rattle.orientation.proofs.orient.Reads as orient
-use Rattle.orientation.proofs.reverse.Reads as reverse
-use Rattle.orientation.proofs.is_ccw.Reads as is_ccw
-use Rattle.orientation.proofs.is_cw.Reads as is_cw
-use Rattle.orientation.proofs.is_colinear.Reads as is_colinear
-use Rattle.orientation.proofs.same.Reads as same
+use Rattle.orientation.proofs.Orientation.reverse.Reads as reverse
+use Rattle.orientation.proofs.Orientation.is_ccw.Reads as is_ccw
+use Rattle.orientation.proofs.Orientation.is_cw.Reads as is_cw
+use Rattle.orientation.proofs.Orientation.is_colinear.Reads as is_colinear
 
 span_once : OneResult span.Post
 span_once κs a r r' s s' h k = h ∙ sym k
@@ -30,6 +29,3 @@ is_cw_once κs a r r' s s' h k = h ∙ sym k
 
 is_colinear_once : OneResult is_colinear.Post
 is_colinear_once κs a r r' s s' h k = h ∙ sym k
-
-same_once : OneResult same.Post
-same_once κs a r r' s s' h k = h ∙ sym k

@@ -2,10 +2,12 @@
 #![tactic(auto)]
 
 ghost use Rattle.std.specs.Prelude.{◌≡◌, ◌-ℤ◌};
-ghost use Rattle.orientation.specs.Turn.{det, turn_of, reversed, is_left, is_right, is_straight, same_turn};
+ghost use Rattle.orientation.specs.Turn.{det, turn_of, reversed, is_left, is_right, is_straight};
+
+use std::cmp::Ordering;
 
 // The turn on the way from the first point over the second to the third.
-#[derive(Clone, Copy)]
+#[derive(Clone, Copy, PartialEq, Eq)]
 pub enum Orientation {
     CounterClockWise,
     ClockWise,
@@ -16,7 +18,7 @@ pub enum Orientation {
 pub fn span(from: i16, to: i16) -> i64
     ensures { result ≡ to -ℤ from }
 {
-    to as i64 - from as i64
+    i64::from(to) - i64::from(from)
 }
 
 pub fn determinant(x1: i16, y1: i16, x2: i16, y2: i16, x3: i16, y3: i16) -> i64
@@ -28,62 +30,39 @@ pub fn determinant(x1: i16, y1: i16, x2: i16, y2: i16, x3: i16, y3: i16) -> i64
 pub fn orient(x1: i16, y1: i16, x2: i16, y2: i16, x3: i16, y3: i16) -> Orientation
     ensures { result ≡ turn_of (det x1 y1 x2 y2 x3 y3) }
 {
-    let d = determinant(x1, y1, x2, y2, x3, y3);
-    if d > 0 {
-        Orientation::CounterClockWise
-    } else if d < 0 {
-        Orientation::ClockWise
-    } else {
-        Orientation::CoLinear
+    match determinant(x1, y1, x2, y2, x3, y3).cmp(&0) {
+        Ordering::Less => Orientation::ClockWise,
+        Ordering::Equal => Orientation::CoLinear,
+        Ordering::Greater => Orientation::CounterClockWise,
     }
 }
 
-pub fn reverse(o: Orientation) -> Orientation
-    ensures { result ≡ reversed o }
-{
-    match o {
-        Orientation::CounterClockWise => Orientation::ClockWise,
-        Orientation::ClockWise => Orientation::CounterClockWise,
-        Orientation::CoLinear => Orientation::CoLinear,
+impl Orientation {
+    pub fn reverse(self) -> Orientation
+        ensures { result ≡ reversed self }
+    {
+        match self {
+            Orientation::CounterClockWise => Orientation::ClockWise,
+            Orientation::ClockWise => Orientation::CounterClockWise,
+            Orientation::CoLinear => Orientation::CoLinear,
+        }
     }
-}
 
-pub fn is_ccw(o: Orientation) -> bool
-    ensures { result ≡ is_left o }
-{
-    match o {
-        Orientation::CounterClockWise => true,
-        Orientation::ClockWise => false,
-        Orientation::CoLinear => false,
+    pub fn is_ccw(self) -> bool
+        ensures { result ≡ is_left self }
+    {
+        self == Orientation::CounterClockWise
     }
-}
 
-pub fn is_cw(o: Orientation) -> bool
-    ensures { result ≡ is_right o }
-{
-    match o {
-        Orientation::CounterClockWise => false,
-        Orientation::ClockWise => true,
-        Orientation::CoLinear => false,
+    pub fn is_cw(self) -> bool
+        ensures { result ≡ is_right self }
+    {
+        self == Orientation::ClockWise
     }
-}
 
-pub fn is_colinear(o: Orientation) -> bool
-    ensures { result ≡ is_straight o }
-{
-    match o {
-        Orientation::CounterClockWise => false,
-        Orientation::ClockWise => false,
-        Orientation::CoLinear => true,
-    }
-}
-
-pub fn same(o: Orientation, p: Orientation) -> bool
-    ensures { result ≡ same_turn o p }
-{
-    match o {
-        Orientation::CounterClockWise => is_ccw(p),
-        Orientation::ClockWise => is_cw(p),
-        Orientation::CoLinear => is_colinear(p),
+    pub fn is_colinear(self) -> bool
+        ensures { result ≡ is_straight self }
+    {
+        self == Orientation::CoLinear
     }
 }

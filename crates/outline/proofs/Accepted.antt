@@ -9,7 +9,7 @@ use borrow.Author.Tests.{ltb-true}
 use lib.Dec.{ltb}
 use lib.IntN.{ℤ}
 use Rattle.line_segment.specs.Piece.{piece_of, first_included, second_included}
-use Rattle.charts.specs.declared.Verdict.TheVariants.{Accepted}
+use Rattle.charts.specs.Verdict.{Accepted}
 use Rattle.charts.proofs.Accepted.{apart, in_range}
 use Rattle.outline.specs.Outline.{number_at, next_of, side_of, verdict_of}
 use Rattle.outline.specs.Demand.{OffCorner, SameCorner, NoneBelow, Due, done, SidesAsGiven, SidesHaveLength, PeakAsGiven}

@@ -9,8 +9,8 @@ use lib.Dec.{eqb, ltb}
 use lib.IntN.{ℤ, pos}
 use lib.ListN.{length}
 use Rattle.line_segment.proofs.Booleans.{no, clash}
-use Rattle.charts.specs.declared.Verdict.{Verdict}
-use Rattle.charts.specs.declared.Verdict.TheVariants.{Accepted}
+use Rattle.charts.specs.Verdict.{Verdict}
+use Rattle.charts.specs.Verdict.{Accepted}
 use Rattle.charts.proofs.Rows.{Says, is_true, is_false, says_lt, says_eq, says_or, says_and, says_off}
 use Rattle.charts.specs.Fault.{same_ends}
 use Rattle.outline.specs.Counting.{first}

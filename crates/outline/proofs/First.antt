@@ -2,9 +2,10 @@
 use mathlib.Core.Path.{◌≡◌, refl, sym, ap, subst, ◌∙◌}
 use mathlib.Core.Bool.{Bool, true, false}
 use mathlib.Core.Logic.{◌⊎◌, inl, inr}
-use Prim.Native.Nat.{ℕ, zero, suc, ◌+◌, ◌<◌}
+use Prim.Native.Nat.{ℕ, zero, suc, ◌+◌, ◌≤◌, ◌<◌}
 use native.Mathlib.Nat.{eq-or-lt_of_le}
 use native.Mathlib.Omega.{arith}
+use Rattle.std.specs.Prelude.{Option, Some, MatchOption, unwrap_or}
 use Rattle.outline.specs.Counting.{first}
 
 -- no number below i is a yes
@@ -21,6 +22,13 @@ pub none : (f : ℕ → Bool) (n : ℕ) → None f n → first f n ≡ n
 unfolding first
 none f zero b = refl
 none f (suc n) b = rw (b 0 (omega arith)) (ap suc (none (λ j. f (suc j)) n (λ j k. b (suc j) (omega arith))))
+
+-- what `find` over the numbers below n gives, n where it gives none
+pub find_or : (f : ℕ → Bool) (n : ℕ) (r : Option ℕ)
+    → MatchOption r ((k : ℕ) → 0 ≤ k → k < n → f k ≡ false) (λ i. (0 ≤ i) × (i < n) × (f i ≡ true) × ((k : ℕ) → 0 ≤ k → k < i → f k ≡ false))
+    → unwrap_or r n ≡ first f n
+find_or f n Rattle.std.specs.Prelude.None h = sym (none f n (λ j l. h j (omega arith) l))
+find_or f n (Some i) h = sym (found f i n h.1 (λ j l. h.3 j (omega arith) l) h.2)
 
 -- one more that is no yes
 pub more : (f : ℕ → Bool) (i : ℕ) → None f i → f i ≡ false → None f (suc i)

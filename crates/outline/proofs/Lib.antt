@@ -1,5 +1,5 @@
 -- From another crate: `use Rattle.outline.proofs.FILE.{..}`.
---   what `first` finds               First       found, none, more
+--   what `first` finds               First       found, none, more, find_or
 --   the verdict, test by test        Verdicts    an-outline, off-corner, accepted
 --   the peak of an accepted outline  Peaks       peak-x, peak-below
 --   statements of specs/Demand        Exactly, Accepted

@@ -14,7 +14,7 @@ use mir.Facts.{Fits-nat_abs}
 use Rattle.line_segment.proofs.Booleans.{no}
 use Rattle.charts.specs.Fault.{range, outside, off_range}
 use Rattle.charts.specs.Piece.{coordinate_of}
-use Rattle.charts.specs.declared.Verdict.TheVariants.{Accepted, Refused}
+use Rattle.charts.specs.Verdict.{Accepted, Refused}
 use Rattle.charts.proofs.Ranges.{coordinate_fits, coordinate_kept}
 use Rattle.outline.specs.Counting.{first}
 use Rattle.outline.specs.Outline.{off_at, same_at, off_peak, no_outline, verdict_of}

@@ -4,8 +4,8 @@ use Rattle.std.specs.Prelude.{◌≡◌, ◌⊎◌, ◌↔◌, List, ℕ, ◌*�
 use Rattle.line_segment.specs.Piece.{piece_of, HasLength}
 use Rattle.charts.specs.Piece.{coordinate_of}
 use Rattle.charts.specs.Demand.{Off}
-use Rattle.charts.specs.declared.Verdict.{Verdict}
-use Rattle.charts.specs.declared.Verdict.TheVariants.{Accepted, Refused}
+use Rattle.charts.specs.Verdict.{Verdict}
+use Rattle.charts.specs.Verdict.{Accepted, Refused}
 use Rattle.outline.specs.Outline.{fewest, most, number_at, next_of, side_of, verdict_of}
 
 module _ (outline : List ℤ) where

@@ -5,8 +5,8 @@ use Rattle.line_segment.specs.declared.LineSegment.{LineSegment}
 use Rattle.line_segment.specs.Piece.{piece_of}
 use Rattle.charts.specs.Fault.{off_range, same_ends}
 use Rattle.charts.specs.Piece.{coordinate_of}
-use Rattle.charts.specs.declared.Verdict.{Verdict}
-use Rattle.charts.specs.declared.Verdict.TheVariants.{Accepted, Refused}
+use Rattle.charts.specs.Verdict.{Verdict}
+use Rattle.charts.specs.Verdict.{Accepted, Refused}
 use Rattle.outline.specs.Counting.{first}
 
 -- "closed outlines of 3 to 64 corners"

@@ -3,10 +3,11 @@
 
 ghost use Rattle.std.specs.Prelude.{◌≡◌, ◌<◌};
 ghost use Rattle.charts.specs.Piece.{coordinate_of};
+ghost use Rattle.charts.specs.Refusal.{told};
 ghost use Rattle.outline.specs.Counting.{first};
 ghost use Rattle.outline.specs.Outline.{number_at, next_of, off_at, same_at, off_peak, side_of, verdict_of};
 
-use charts::Verdict;
+use charts::{Reason, Refusal};
 use line_segment::LineSegment;
 
 // An outline has at least and at most so many corners.
@@ -84,24 +85,14 @@ pub fn side_of(outline: &[i32], n: usize, i: usize) -> LineSegment
 fn first_off(outline: &[i32], n: usize) -> usize
     ensures { result ≡ first (off_at outline.now) n }
 {
-    for i in 0..n {
-        if is_off(outline, i) {
-            return i;
-        }
-    }
-    n
+    (0..n).find(|i| is_off(outline, *i)).unwrap_or(n)
 }
 
 // The first corner of n that is equal to its next, n where there is none.
 fn first_repeated(outline: &[i32], n: usize) -> usize
     ensures { result ≡ first (same_at outline.now n) n }
 {
-    for i in 0..n {
-        if is_repeated(outline, n, i) {
-            return i;
-        }
-    }
-    n
+    (0..n).find(|i| is_repeated(outline, n, *i)).unwrap_or(n)
 }
 
 fn is_off_peak(x: i32, y: i32) -> bool
@@ -111,29 +102,29 @@ fn is_off_peak(x: i32, y: i32) -> bool
 }
 
 // 15, then the first corner out of range, then the first that is equal to its next, then the peak.
-pub fn verdict_of(outline: &[i32], x: i32, y: i32) -> Verdict
-    ensures { result ≡ verdict_of outline.now x y }
+pub fn verdict_of(outline: &[i32], x: i32, y: i32) -> Result<usize, Refusal>
+    ensures { told result ≡ verdict_of outline.now x y }
 {
     let n = outline.len() / 2;
     if outline.len() % 2 != 0 {
-        return Verdict::Refused(15, 0);
+        return Err(Reason::Outline.at(0));
     }
     if n < FEWEST {
-        return Verdict::Refused(15, 0);
+        return Err(Reason::Outline.at(0));
     }
     if MOST < n {
-        return Verdict::Refused(15, 0);
+        return Err(Reason::Outline.at(0));
     }
     let off = first_off(outline, n);
     if off < n {
-        return Verdict::Refused(5, off);
+        return Err(Reason::Coordinate.at(off));
     }
     let repeated = first_repeated(outline, n);
     if repeated < n {
-        return Verdict::Refused(6, repeated);
+        return Err(Reason::NoLength.at(repeated));
     }
     if is_off_peak(x, y) {
-        return Verdict::Refused(5, 0);
+        return Err(Reason::Coordinate.at(0));
     }
-    Verdict::Accepted(n)
+    Ok(n)
 }

@@ -28,10 +28,9 @@ fn put_pair(list: &[i32], text: &mut [u8], end: usize, a: u8, b: u8) -> usize
 pub fn put_pairs(list: &[i32], pairs: &[u8], text: &mut [u8], end: usize) -> usize
     ensures { text_of text.new result ≡ put (pair_lines list.now (pairs_in pairs.now)) (text_of text.old end) }
 {
-    let count = pairs.len() / 2;
     let mut next = end;
-    for k in 0..count {
-        next = put_pair(list, text, next, pairs[2 * k], pairs[2 * k + 1]);
+    for [a, b] in pairs.as_chunks::<2>().0 {
+        next = put_pair(list, text, next, *a, *b);
     }
     next
 }

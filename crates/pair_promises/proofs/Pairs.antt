@@ -10,8 +10,8 @@ use lib.IntN.{ℤ, nat_abs}
 use lib.ListN.{length}
 use Rattle.fractions.specs.Order.{turned}
 use Rattle.fractions.specs.Point.{point_order, whole_of}
-use Rattle.fractions.specs.declared.Order.{Order}
-use Rattle.fractions.specs.declared.Order.TheVariants.{Less, Equal, Greater}
+use Rattle.std.specs.declared.cmp.Ordering.{Ordering}
+use Rattle.std.specs.declared.cmp.Ordering.TheVariants.{Less, Equal, Greater}
 use Rattle.fractions.specs.declared.Point.{Point}
 use Rattle.fractions.proofs.Promises.{orders_points, lowest_terms}
 use Rattle.line_segment.specs.declared.LineSegment.{LineSegment}
@@ -24,8 +24,8 @@ use Rattle.line_segment.specs.Demand.{says_yes, says_overlap, Meet, CommonPart}
 use Rattle.line_segment.proofs.Booleans.{no}
 use Rattle.line_segment.proofs.Lying.{whole, same_lies}
 use Rattle.line_segment.proofs.Promises.{says_yes_exactly, overlap_exactly, overlap_ends}
-use Rattle.charts.specs.declared.Verdict.{Verdict}
-use Rattle.charts.specs.declared.Verdict.TheVariants.{Accepted, Refused}
+use Rattle.charts.specs.Verdict.{Verdict}
+use Rattle.charts.specs.Verdict.{Accepted, Refused}
 use Rattle.charts.specs.Demand.{Due, done, PairDue, ten}
 use Rattle.charts.specs.Pair.{pair_verdict_of, meeting_answer, meeting_of}
 use Rattle.charts.specs.Piece.{piece_at}
@@ -112,7 +112,7 @@ module _ (a b : LineSegment) (la : HasLength a) (lb : HasLength b) where
       over (Overlap s) h = refl
 
 -- ---- the common part of pieces that meet runs forward, or is one point of both
-less_of : (o : Order) (m : Bool) → admits o m ≡ true → (o ≡ Less) ⊎ ((o ≡ Equal) × (m ≡ true))
+less_of : (o : Ordering) (m : Bool) → admits o m ≡ true → (o ≡ Less) ⊎ ((o ≡ Equal) × (m ≡ true))
 less_of Less m e = inl refl
 less_of Equal m e = inr (refl, e)
 less_of Greater m e = clash e refl
@@ -215,7 +215,7 @@ place_case (Where.At p) = 1
 place_case (Where.Along p q) = 2
 
 -- an end of a stretch is whole
-end_whole : (o : Order) (s : LineSegment) (p : Point) → along_by o (point_of s.min) (point_of s.max) ≡ Where.At p → p.d ≡ 1
+end_whole : (o : Ordering) (s : LineSegment) (p : Point) → along_by o (point_of s.min) (point_of s.max) ≡ Where.At p → p.d ≡ 1
 unfolding along_by point_of
 end_whole Less s p w = no (cc)
 end_whole Equal s p w = let is : point_of s.min ≡ p = cc in sym (ap (λ (q : Point). q.d) is)

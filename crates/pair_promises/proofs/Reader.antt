@@ -11,7 +11,7 @@ use lib.Dec.{ltb}
 use lib.IntN.{ℤ}
 use lib.ListN.{length, drop}
 use Rattle.charts.specs.declared.Answer.{Answer}
-use Rattle.charts.specs.declared.Verdict.TheVariants.{Accepted}
+use Rattle.charts.specs.Verdict.{Accepted}
 use Rattle.charts.specs.Answer.{refused_with}
 use Rattle.charts.specs.Chart.{most}
 use Rattle.charts.specs.Demand.{Due, done}

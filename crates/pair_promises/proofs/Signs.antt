@@ -8,8 +8,8 @@ use lib.IntN.{ℤ, pos, negsuc}
 use lib.Signed.{◌<ℤ◌}
 use Rattle.integers.proofs.Order.{Tri, less, same, more, tri}
 use Rattle.fractions.specs.Point.{point_order}
-use Rattle.fractions.specs.declared.Order.{Order}
-use Rattle.fractions.specs.declared.Order.TheVariants.{Less, Equal, Greater}
+use Rattle.std.specs.declared.cmp.Ordering.{Ordering}
+use Rattle.std.specs.declared.cmp.Ordering.TheVariants.{Less, Equal, Greater}
 use Rattle.fractions.specs.declared.Point.{Point}
 use Rattle.fractions.proofs.Points as points
 use Rattle.fractions.proofs.Points.{Places, places, placed}
@@ -72,7 +72,7 @@ module _ (p q : Point) (r : ℤ) (e : r ≡ order_number (point_order p q)) wher
   unfolding order_number
   compare_sign = sign r (go (point_order p q) refl (places p q)) first same after
     where
-      go : (o : Order) → point_order p q ≡ o → Places p q o → Given r (Comes p q) (OnePoint p q) (Comes q p)
+      go : (o : Ordering) → point_order p q ≡ o → Places p q o → Given r (Comes p q) (OnePoint p q) (Comes q p)
       go Less f (points.left h) = is_below (e ∙ ap order_number f) (inl h)
       go Less f (points.below d h) = is_below (e ∙ ap order_number f) (inr (d, h))
       go Equal f (points.same d h) = is_even (e ∙ ap order_number f) (d, h)

@@ -8,7 +8,7 @@ use Rattle.line_segment.specs.declared.Meeting.{Meeting}
 use Rattle.line_segment.specs.Piece.{HasLength, point_of}
 use Rattle.line_segment.specs.Geometry.{Common, OneLine}
 use Rattle.line_segment.specs.Demand.{Meet, CommonPart}
-use Rattle.charts.specs.declared.Verdict.TheVariants.{Accepted, Refused}
+use Rattle.charts.specs.Verdict.{Accepted, Refused}
 use Rattle.charts.specs.Demand.{PairDue}
 use Rattle.charts.specs.Pair.{meeting_of}
 use Rattle.charts.specs.Piece.{piece_at}

@@ -1,7 +1,7 @@
 -- What is promised of the reader: of what it returns, and of the numbers that its caller finds in the lent list.
 use Rattle.std.specs.Prelude.{◌≡◌, List, ◌++◌, ℕ, ◌*◌, ◌≤◌, ◌<◌, ℤ, length, drop}
 use Rattle.charts.specs.declared.Answer.{Answer}
-use Rattle.charts.specs.declared.Verdict.TheVariants.{Accepted}
+use Rattle.charts.specs.Verdict.{Accepted}
 use Rattle.charts.specs.Answer.{refused_with}
 use Rattle.charts.specs.Chart.{most}
 use Rattle.charts.specs.Demand.{Due}

@@ -2,6 +2,7 @@
 -- Assumes nothing.
 use mathlib.Core.Path.{sym, ◌∙◌}
 use Rattle.charts.specs.Outcome.{OneResult}
+use Rattle.charts.proofs.Refusals.{fault_named}
 use Rattle.piece_fault.proofs.is_outside.Reads as is_outside
 use Rattle.piece_fault.proofs.is_off_range.Reads as is_off_range
 use Rattle.piece_fault.proofs.has_same_ends.Reads as has_same_ends
@@ -17,4 +18,4 @@ pub has_same_ends_once : OneResult has_same_ends.Post
 has_same_ends_once κ a x y s t h k = h ∙ sym k
 
 pub fault_of_once : OneResult fault_of.Post
-fault_of_once κ a x y s t h k = h ∙ sym k
+fault_of_once κ a x y s t h k = fault_named x y (h ∙ sym k)

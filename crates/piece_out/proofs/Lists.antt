@@ -13,7 +13,7 @@ use Rattle.line_segment.specs.Piece.{piece_of}
 use Rattle.charts.specs.Chart.{most, number_at, verdict_of}
 use Rattle.charts.specs.Demand.{Fault, FaultOf, Due, done}
 use Rattle.charts.specs.Piece.{kind_of, coordinate_of, piece_at}
-use Rattle.charts.specs.declared.Verdict.TheVariants.{Accepted}
+use Rattle.charts.specs.Verdict.{Accepted}
 use Rattle.charts.proofs.Exactly.{refuses_exactly}
 use Rattle.charts.proofs.Accepted.{accepted_most, accepted_sound}
 use Rattle.piece_out.specs.Cut.{cut_out, put_in, raised}

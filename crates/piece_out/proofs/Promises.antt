@@ -11,7 +11,7 @@ use Rattle.line_segment.specs.declared.LineSegment.{LineSegment}
 use Rattle.charts.specs.Answer.{listing_of}
 use Rattle.charts.specs.Chart.{verdict_of}
 use Rattle.charts.specs.Piece.{piece_at}
-use Rattle.charts.specs.declared.Verdict.TheVariants.{Accepted}
+use Rattle.charts.specs.Verdict.{Accepted}
 use Rattle.charts.proofs.Listing.{listing_goes, listing_accepted, listing_refuses_exactly}
 use Rattle.charts.proofs.Room.{room_least}
 use Rattle.naive.specs.Pairs.{bytes, over}

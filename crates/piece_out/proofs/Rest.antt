@@ -16,7 +16,7 @@ use Rattle.line_segment.specs.declared.LineSegment.{LineSegment}
 use Rattle.line_segment.specs.Demand.{Meet}
 use Rattle.charts.specs.Chart.{verdict_of}
 use Rattle.charts.specs.Piece.{piece_at}
-use Rattle.charts.specs.declared.Verdict.TheVariants.{Accepted}
+use Rattle.charts.specs.Verdict.{Accepted}
 use Rattle.naive.specs.AllPairs.{pairs_of}
 use Rattle.naive.specs.Demand.{Before}
 use Rattle.naive.proofs.Exactly as all

@@ -6,13 +6,13 @@ use Prim.Native.Nat.{ℕ}
 use native.Mathlib.Omega.{arith}
 use lib.IntN.{ℤ}
 use lib.ListN.{length}
-use Rattle.fractions.specs.declared.Order.{Order}
-use Rattle.fractions.specs.declared.Order.TheVariants.{Less, Equal, Greater}
+use Rattle.std.specs.declared.cmp.Ordering.{Ordering}
+use Rattle.std.specs.declared.cmp.Ordering.TheVariants.{Less, Equal, Greater}
 use Rattle.line_segment.specs.declared.Meeting.{Meeting}
 use Rattle.line_segment.specs.Piece.{HasLength, end_order, point_of}
 use Rattle.line_segment.specs.Segment.{intersect_of, crossing_of}
 use Rattle.line_segment.proofs.Promises.{crossing_is_cramers}
-use Rattle.charts.specs.declared.Verdict.{Verdict}
+use Rattle.charts.specs.Verdict.{Verdict}
 use Rattle.charts.specs.Piece.{piece_at}
 use Rattle.charts.specs.Demand as Charts
 use Rattle.charts.specs.Demand.{PairDue}
@@ -47,7 +47,7 @@ place_is_due a b h k r s = go (intersect_of a b) refl (meeting_in a b r s)
     go Meeting.Crossing e _ = crossed e
     go (Meeting.Overlap t) e (overlap i) = stretched (end_order t.min t.max) refl
       where
-        stretched : (o : Order) → end_order t.min t.max ≡ o → Due a b (values_of (in_binary64 (along_by o (point_of t.min) (point_of t.max))))
+        stretched : (o : Ordering) → end_order t.min t.max ≡ o → Due a b (values_of (in_binary64 (along_by o (point_of t.min) (point_of t.max))))
         stretched Less o =
             along e o
             (same t.min.x i.min.x.small) (same t.min.y i.min.y.small)

@@ -9,8 +9,8 @@ use mir.Syntax.{w16}
 use mir.Val.{SFits}
 use Rattle.integers.specs.Size.{Small}
 use Rattle.integers.proofs.Machine.{m_range, m_pos, m_bound}
-use Rattle.fractions.specs.declared.Order.{Order}
-use Rattle.fractions.specs.declared.Order.TheVariants.{Less, Equal, Greater}
+use Rattle.std.specs.declared.cmp.Ordering.{Ordering}
+use Rattle.std.specs.declared.cmp.Ordering.TheVariants.{Less, Equal, Greater}
 use Rattle.line_segment.specs.declared.EndPoint.{EndPoint}
 use Rattle.line_segment.specs.Piece.{join_by, join_of, piece_of}
 use Rattle.charts.specs.Fault.{range, outside}
@@ -27,7 +27,7 @@ coordinate_small v = go (outside (neg_ℤ range) range v) (coordinate_fits v)
     go true f = m_bound (m_pos {n = 0}) tt
     go false f = m_bound (m_range (f refl)) tt
 
-joined : (o : Order) {a b : EndPoint} → EndInRange a → EndInRange b → InRange (join_by o a b)
+joined : (o : Ordering) {a b : EndPoint} → EndInRange a → EndInRange b → InRange (join_by o a b)
 unfolding join_by
 joined Less h k = record { min = h; max = k }
 joined Equal h k = record { min = k; max = h }

@@ -12,8 +12,8 @@ use Rattle.integers.proofs.Machine.{m_bound}
 use Rattle.integers.proofs.Sizes.{abs_neg}
 use Rattle.integers.proofs.Tests.{sized}
 use Rattle.orientation.specs.Turn.{is_straight}
-use Rattle.fractions.specs.declared.Order.{Order}
-use Rattle.fractions.specs.declared.Order.TheVariants.{Less, Equal, Greater}
+use Rattle.std.specs.declared.cmp.Ordering.{Ordering}
+use Rattle.std.specs.declared.cmp.Ordering.TheVariants.{Less, Equal, Greater}
 use Rattle.fractions.specs.declared.Point.{Point}
 use Rattle.fractions.specs.Point.{lowest_of, common}
 use Rattle.fractions.proofs.Quotient.{quot_size}
@@ -82,13 +82,13 @@ exclusive_in : (i : Bool) {a b : EndPoint} → EndInRange a → EndInRange b →
 exclusive_in true h k = k
 exclusive_in false h k = h
 
-rightmost_in : (o : Order) {a b : EndPoint} → EndInRange a → EndInRange b → EndInRange (right_by o a b)
+rightmost_in : (o : Ordering) {a b : EndPoint} → EndInRange a → EndInRange b → EndInRange (right_by o a b)
 unfolding right_by
 rightmost_in Less h k = k
 rightmost_in Equal {a} h k = exclusive_in a.included h k
 rightmost_in Greater h k = h
 
-leftmost_in : (o : Order) {a b : EndPoint} → EndInRange a → EndInRange b → EndInRange (left_by o a b)
+leftmost_in : (o : Ordering) {a b : EndPoint} → EndInRange a → EndInRange b → EndInRange (left_by o a b)
 unfolding left_by
 leftmost_in Less h k = h
 leftmost_in Equal {a} h k = exclusive_in a.included h k
@@ -103,7 +103,7 @@ either : (t : Bool) {x y : Meeting} → StretchInRange x → StretchInRange y �
 either true h k = h
 either false h k = k
 
-stretch_in : (o : Order) {s : LineSegment} → InRange s → StretchInRange (stretch_by o s)
+stretch_in : (o : Ordering) {s : LineSegment} → InRange s → StretchInRange (stretch_by o s)
 unfolding stretch_by
 stretch_in Less h = overlap h
 stretch_in Equal {s} h = either (s.max.included && s.min.included) (overlap h) nothing

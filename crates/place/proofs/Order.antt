@@ -6,7 +6,7 @@ use lib.IntN.{pos, ◌*ℤ◌}
 use lib.Signed.{◌≤ℤ◌}
 use Rattle.integers.proofs.Signs.{<→≤}
 use Rattle.integers.proofs.Order.{≡→≤, <→≢}
-use Rattle.fractions.specs.declared.Order.{Order}
+use Rattle.std.specs.declared.cmp.Ordering.{Ordering}
 use Rattle.fractions.specs.declared.Point.{Point}
 use Rattle.fractions.specs.Point.{point_order}
 use Rattle.fractions.proofs.Points.{Places, left, below, same, above, right, places}
@@ -20,7 +20,7 @@ pub record NoLater (p q : Point) : Type 0 where
 pub no_later : (p q : Point) (i : Bool) → admits (point_order p q) i ≡ true → NoLater p q
 no_later p q i = go (places p q)
   where
-    go : {o : Order} → Places p q o → admits o i ≡ true → NoLater p q
+    go : {o : Ordering} → Places p q o → admits o i ≡ true → NoLater p q
     go (left h) _ = record { x = <→≤ h; y = λ e. absurd (<→≢ h e) }
     go (below e h) _ = record { x = ≡→≤ e; y = λ _. <→≤ h }
     go (same e f) _ = record { x = ≡→≤ e; y = λ _. ≡→≤ f }

@@ -14,8 +14,8 @@ use Rattle.integers.proofs.Factors.{zero_product}
 use Rattle.orientation.specs.declared.Orientation.{Orientation}
 use Rattle.orientation.specs.declared.Orientation.TheVariants.{CounterClockWise, ClockWise, CoLinear}
 use Rattle.orientation.specs.Turn.{det, turn_of, reversed, is_straight, same_turn}
-use Rattle.fractions.specs.declared.Order.{Order}
-use Rattle.fractions.specs.declared.Order.TheVariants.{Less, Equal, Greater}
+use Rattle.std.specs.declared.cmp.Ordering.{Ordering}
+use Rattle.std.specs.declared.cmp.Ordering.TheVariants.{Less, Equal, Greater}
 use Rattle.fractions.specs.Point.{point_order}
 use Rattle.line_segment.specs.declared.EndPoint.{EndPoint}
 use Rattle.line_segment.specs.declared.LineSegment.{LineSegment}
@@ -33,7 +33,7 @@ Crosses Crossing = Unit
 Crosses (Overlap s) = ⊥
 
 -- ---- a stretch is no crossing
-no_stretch : (o : Order) (s : LineSegment) → ¬ Crosses (stretch_by o s)
+no_stretch : (o : Ordering) (s : LineSegment) → ¬ Crosses (stretch_by o s)
 unfolding stretch_by
 no_stretch Less s h = h
 no_stretch Equal s h = go (s.max.included && s.min.included) h
@@ -78,7 +78,7 @@ second true true h = refl
 second true false h = absurd h
 second false j h = absurd h
 
-joined : (o : Order) (e f : EndPoint) → point_of e ≡ point_of f → (point_of (join_by o e f).min ≡ point_of e) × (point_of (join_by o e f).max ≡ point_of e)
+joined : (o : Ordering) (e f : EndPoint) → point_of e ≡ point_of f → (point_of (join_by o e f).min ≡ point_of e) × (point_of (join_by o e f).max ≡ point_of e)
 unfolding join_by
 joined Less e f h = (refl, sym h)
 joined Equal e f h = (sym h, refl)

@@ -1,7 +1,7 @@
 -- The points of a place, one or two: what both ends of an overlap keep, each point of its place keeps.
 -- Assumes nothing.
-use Rattle.fractions.specs.declared.Order.{Order}
-use Rattle.fractions.specs.declared.Order.TheVariants.{Less, Equal, Greater}
+use Rattle.std.specs.declared.cmp.Ordering.{Ordering}
+use Rattle.std.specs.declared.cmp.Ordering.TheVariants.{Less, Equal, Greater}
 use Rattle.fractions.specs.declared.Point.{Point}
 use Rattle.line_segment.specs.declared.LineSegment.{LineSegment}
 use Rattle.line_segment.specs.Piece.{point_of, end_order}
@@ -17,7 +17,7 @@ pub along_all : (P : Point → Type 0) (s : LineSegment) → P (point_of s.min) 
 unfolding along_of along_by
 along_all P s h k = go (end_order s.min s.max)
   where
-    go : (o : Order) → All P (along_by o (point_of s.min) (point_of s.max))
+    go : (o : Ordering) → All P (along_by o (point_of s.min) (point_of s.max))
     go Less = search (h, k)
     go Equal = search (h, k)
     go Greater = search (h, k)

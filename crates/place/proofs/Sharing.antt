@@ -5,8 +5,8 @@ use mathlib.Core.Logic.{◌⊎◌, inl, inr}
 use mathlib.Core.Bool.{true}
 use Prim.Native.Nat.{◌<◌}
 use lib.IntN.{pos}
-use Rattle.fractions.specs.declared.Order.{Order}
-use Rattle.fractions.specs.declared.Order.TheVariants.{Less, Equal, Greater}
+use Rattle.std.specs.declared.cmp.Ordering.{Ordering}
+use Rattle.std.specs.declared.cmp.Ordering.TheVariants.{Less, Equal, Greater}
 use Rattle.fractions.specs.declared.Point.{Point}
 use Rattle.fractions.specs.Order.{turned}
 use Rattle.fractions.specs.Point.{Lowest, point_order, lowest_of}
@@ -36,7 +36,7 @@ module _ (e f : EndPoint) where
   unfolding end_order
   squeezed p q h k = go (point_order (point_of e) p) refl
     where
-      go : (o : Order) → point_order (point_of e) p ≡ o → o ≡ Equal
+      go : (o : Ordering) → point_order (point_of e) p ≡ o → o ≡ Equal
       go Less l = absurd (k (point_turned (point_of f) p ∙ ap turned (sym (point_alike (point_of e) (point_of f) p (whole e) (whole f) q) ∙ l)))
       go Equal _ = refl
       go Greater g = absurd (h g)
@@ -116,7 +116,7 @@ module _ (a b : LineSegment) (la : HasLength a) (lb : HasLength b) where
     unfolding along_of along_by
     along_at p w = go (end_order s.min s.max) refl w
       where
-        go : (o : Order) → end_order s.min s.max ≡ o → along_by o (point_of s.min) (point_of s.max) ≡ Where.At p → Single a b p
+        go : (o : Ordering) → end_order s.min s.max ≡ o → along_by o (point_of s.min) (point_of s.max) ≡ Where.At p → Single a b p
         go Less o w = no (cc)
         go Equal o w = let is : point_of s.min ≡ p = cc in subst (Single a b) is (point_single o)
         go Greater o w = no (cc)
@@ -125,7 +125,7 @@ module _ (a b : LineSegment) (la : HasLength a) (lb : HasLength b) where
     unfolding along_of along_by
     along_several y = go (end_order s.min s.max) refl y
       where
-        go : (o : Order) → end_order s.min s.max ≡ o → says_along (along_by o (point_of s.min) (point_of s.max)) ≡ true → Several a b
+        go : (o : Ordering) → end_order s.min s.max ≡ o → says_along (along_by o (point_of s.min) (point_of s.max)) ≡ true → Several a b
         go Less o y = ends_several o
         go Equal o y = clash y
         go Greater o y = absurd (no_back o)

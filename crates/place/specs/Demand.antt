@@ -1,7 +1,7 @@
 -- What is promised of a place, in whole numbers. Each statement is a type, inhabited in proofs/.
 use Rattle.std.specs.Prelude.{◌≡◌, ◌↔◌, Bool, true, false, List, [], ◌∷◌, ℕ, ◌^◌, ℤ, Float}
 use Rattle.integers.specs.Size.{Small}
-use Rattle.fractions.specs.declared.Order.TheVariants.{Less, Equal}
+use Rattle.std.specs.declared.cmp.Ordering.TheVariants.{Less, Equal}
 use Rattle.fractions.specs.declared.Point.{Point}
 use Rattle.fractions.specs.Point.{Lowest, point_order}
 use Rattle.line_segment.specs.declared.EndPoint.{EndPoint}
@@ -10,7 +10,7 @@ use Rattle.line_segment.specs.declared.Meeting.{Meeting}
 use Rattle.line_segment.specs.Piece.{HasLength, end_order, closed}
 use Rattle.line_segment.specs.Geometry.{Common}
 use Rattle.line_segment.specs.Segment.{intersect_of, crossing_of}
-use Rattle.charts.specs.declared.Verdict.{Verdict}
+use Rattle.charts.specs.Verdict.{Verdict}
 use Rattle.charts.specs.Piece.{piece_at}
 use Rattle.charts.specs.Demand.{PairDue}
 use Rattle.place.specs.declared.Where.{Where}

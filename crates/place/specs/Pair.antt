@@ -1,6 +1,6 @@
 -- The pair call: the place of the meeting of two pieces that are given as ten numbers.
 use Rattle.std.specs.Prelude.{List, ℤ}
-use Rattle.charts.specs.declared.Verdict.{Verdict}
+use Rattle.charts.specs.Verdict.{Verdict}
 use Rattle.charts.specs.Piece.{piece_at}
 use Rattle.charts.specs.Pair.{pair_verdict_of}
 use Rattle.place.specs.declared.Place.{Place}

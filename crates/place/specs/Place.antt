@@ -1,7 +1,7 @@
 -- The place of a meeting: first exactly, from the segment test and Cramer's point alone, and then in binary64.
 use Rattle.std.specs.Prelude.{List, [], ◌∷◌, ◌<◌, ◌≤◌, ◌^◌, nat_abs, Float}
-use Rattle.fractions.specs.declared.Order.{Order}
-use Rattle.fractions.specs.declared.Order.TheVariants.{Less, Equal, Greater}
+use Rattle.std.specs.declared.cmp.Ordering.{Ordering}
+use Rattle.std.specs.declared.cmp.Ordering.TheVariants.{Less, Equal, Greater}
 use Rattle.fractions.specs.declared.Point.{Point}
 use Rattle.line_segment.specs.declared.LineSegment.{LineSegment}
 use Rattle.line_segment.specs.declared.Meeting.{Meeting}
@@ -13,7 +13,7 @@ use Rattle.place.specs.declared.Place.{Place}
 use Rattle.place.specs.Binary64.{nearest}
 
 -- "At that point .., and Along only when the ends differ": from p to q, by their order; a stretch never runs back
-unfoldable pub along_by : Order → Point → Point → Where
+unfoldable pub along_by : Ordering → Point → Point → Where
 along_by Less p q = Where.Along p q
 along_by Equal p q = Where.At p
 along_by Greater p q = Where.Along p q

@@ -11,8 +11,8 @@ use lib.IntN.{pos}
 use Rattle.integers.proofs.Naturals.{pos-<}
 use Rattle.fractions.specs.Order.{turned, and_then}
 use Rattle.fractions.specs.Point.{point_order}
-use Rattle.fractions.specs.declared.Order.{Order}
-use Rattle.fractions.specs.declared.Order.TheVariants.{Less, Equal, Greater}
+use Rattle.std.specs.declared.cmp.Ordering.{Ordering}
+use Rattle.std.specs.declared.cmp.Ordering.TheVariants.{Less, Equal, Greater}
 use Rattle.fractions.specs.declared.Point.{Point}
 use Rattle.fractions.proofs.Orders.{order_less, order_equal, order_greater}
 use Rattle.fractions.proofs.Points.{point_turned, point_alike, point_alike'}
@@ -33,7 +33,7 @@ use Rattle.plain_order.proofs.First.{first_is_least}
 one_least : (a b : LineSegment) (p q : Point) → LeastCommon a b p → LeastCommon a b q → point_order p q ≡ Equal
 one_least a b p q h k = go (point_order p q) refl
   where
-    go : (o : Order) → point_order p q ≡ o → point_order p q ≡ Equal
+    go : (o : Ordering) → point_order p q ≡ o → point_order p q ≡ Equal
     go Less e = absurd (k.least p h.common (point_turned p q ∙ ap turned e))
     go Equal e = e
     go Greater e = absurd (h.least q k.common e)
@@ -92,7 +92,7 @@ before_exactly list n e q s h k p t f g = (
         point_alike (first_at list q) p (first_at list s) a.common.positive f.common.positive (one_least _ _ (first_at list q) p a f)
         ∙ point_alike' p (first_at list s) t b.common.positive g.common.positive (one_least _ _ (first_at list s) t b g)
 
-    forth : (o : Order) → point_order p t ≡ o → is_less (and_then (point_order p t) (number_order q s)) ≡ true → (point_order p t ≡ Less) ⊎ ((point_order p t ≡ Equal) × Before q s)
+    forth : (o : Ordering) → point_order p t ≡ o → is_less (and_then (point_order p t) (number_order q s)) ≡ true → (point_order p t ≡ Less) ⊎ ((point_order p t ≡ Equal) × Before q s)
     forth Less x b = inl x
     forth Equal x b = inr (x, less_numbers q s (rw x at b))
     forth Greater x b = clash b (rw x)

@@ -6,7 +6,7 @@ use native.Mathlib.Nat.{zero-div}
 use native.Mathlib.Omega.{arith}
 use Rattle.fractions.specs.Order.{turned}
 use Rattle.fractions.specs.Point.{common, lowest_of, point_order}
-use Rattle.fractions.specs.declared.Order.TheVariants.{Equal}
+use Rattle.std.specs.declared.cmp.Ordering.TheVariants.{Equal}
 use Rattle.fractions.specs.declared.Point.{Point}
 use Rattle.fractions.proofs.Points.{point_turned, point_alike}
 use Rattle.fractions.proofs.Promises.{lowest_terms}

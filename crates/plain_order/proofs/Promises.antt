@@ -5,7 +5,7 @@ use mathlib.Core.List.{List, map}
 use Prim.Native.Nat.{ℕ}
 use lib.IntN.{ℤ}
 use Rattle.charts.specs.Chart.{verdict_of}
-use Rattle.charts.specs.declared.Verdict.TheVariants.{Accepted}
+use Rattle.charts.specs.Verdict.{Accepted}
 use Rattle.naive.specs.AllPairs.{pairs_of}
 use Rattle.sweep.proofs.Sorting.{sort_in, sort_out, sort_sorted, sorted_same}
 use Rattle.plain_order.specs.Order.{before}

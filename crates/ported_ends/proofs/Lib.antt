@@ -1,1 +1,2 @@
+pub mod Sorted
 pub mod Ordering

@@ -1,13 +1,10 @@
 -- What an examination of one pair comes to, and a pass over adjacent pairs, one more at a time.
 use mathlib.Core.Path.{◌≡◌, refl, sym, ap}
-use mathlib.Core.Bool.{Bool, true, false}
-use mathlib.Core.List.{List}
-use Prim.Native.Nat.{ℕ, zero, suc, ◌-◌, ◌≤◌, ◌<◌}
+use mathlib.Core.List.{List, [], ◌∷◌}
+use Prim.Native.Nat.{ℕ, ◌≤◌, ◌<◌}
 use native.Mathlib.Omega.{arith}
-use lib.Dec.{ltb}
-use lib.ListN.{length, get_or, drop, drop_of_length-le}
-use lib.Seq.{drop-cons}
-use borrow.Author.Tests.{eq-eqb, ne_eqb, lt-ltb, le-ltb, ltb-true, ltb-false}
+use lib.ListN.{length, get_or, take, drop}
+use borrow.Author.Tests.{eq-eqb, ne_eqb, lt-ltb, le-ltb}
 use Rattle.sweep.specs.Lists.{Pair, lesser_first, adjacent_from, adjacent}
 use Rattle.sweep.specs.Chart.{Kind, Chart, kind}
 use Rattle.sweep.specs.Step.{each}
@@ -33,22 +30,16 @@ pub lesser_no : (a b : ℕ) → b ≤ a → lesser_first a b ≡ (b, a)
 unfolding lesser_first
 lesser_no a b h = rw (le-ltb a b h) refl
 
-pub adjacent_step : {S : Type 0} (f : Pair → S → S) (l : List ℕ) (k : ℕ) (s : S) → 1 ≤ k → k < length l
-    → each f (adjacent (drop (k - 1) l)) s ≡ each f (adjacent (drop k l)) (f (lesser_first (get_or l (k - 1) 0) (get_or l k 0)) s)
+-- w is the first two of l, and m is l without its first
+pub adjacent_step : {S : Type 0} (f : Pair → S → S) (l w m : List ℕ) (k : ℕ) (s : S) → k ≡ 2 → k ≤ length l → w ≡ take k l → m ≡ drop 1 l
+    → each f (adjacent l) s ≡ each f (adjacent m) (f (lesser_first (get_or w 0 0) (get_or w 1 0)) s)
 unfolding each adjacent adjacent_from
-adjacent_step f l zero s a h = absurd (omega arith)
-adjacent_step f l (suc j) s a h =
-    let e : suc j - 1 ≡ j = omega arith in
-    rw (e, drop-cons l j 0 (omega arith), drop-cons l (suc j) 0 h) refl
+adjacent_step f [] w m k s e h a b = absurd (omega arith)
+adjacent_step f (x ∷ []) w m k s e h a b = absurd (omega arith)
+adjacent_step f (x ∷ y ∷ l) w m k s e h a b = rw (a, b, e) refl
 
-pub adjacent_end : {S : Type 0} (f : Pair → S → S) (l : List ℕ) (k : ℕ) (s : S) → length l ≤ k → each f (adjacent (drop (k - 1) l)) s ≡ s
+pub adjacent_end : {S : Type 0} (f : Pair → S → S) (l : List ℕ) (s : S) → length l < 2 → each f (adjacent l) s ≡ s
 unfolding each adjacent adjacent_from
-adjacent_end f l zero s h = rw (drop_of_length-le l {i = 0 - 1} (omega arith)) refl
-adjacent_end f l (suc j) s h = go (ltb j (length l)) refl
-  where
-    e : suc j - 1 ≡ j
-    e = omega arith
-
-    go : (b : Bool) → ltb j (length l) ≡ b → each f (adjacent (drop (suc j - 1) l)) s ≡ s
-    go true d = rw (e, drop-cons l j 0 (ltb-true j (length l) d), drop_of_length-le l {i = suc j} h) refl
-    go false d = rw (e, drop_of_length-le l {i = j} (ltb-false j (length l) d)) refl
+adjacent_end f [] s h = refl
+adjacent_end f (x ∷ []) s h = refl
+adjacent_end f (x ∷ y ∷ l) s h = absurd (omega arith)

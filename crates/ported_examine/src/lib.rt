@@ -135,25 +135,11 @@ pub fn examine_all(
     ensures { Examined (λ n. each (examine (chart_in n table.now) p) (adjacent (take live active.now)))
         marks.old waiting.old head bytes.old end marks.new waiting.new bytes.new result }
 {
-    let mut from = head;
-    let mut to = end;
-    for k in 1..live {
-        let places = examine_two(
-            table,
-            p,
-            active[k - 1],
-            active[k],
-            marks,
-            waiting,
-            from,
-            bytes,
-            to,
+    let mut at = Places { head, end };
+    for pair in active[..live].windows(2) {
+        at = examine_two(
+            table, p, pair[0], pair[1], marks, waiting, at.head, bytes, at.end,
         );
-        from = places.head;
-        to = places.end;
     }
-    Places {
-        head: from,
-        end: to,
-    }
+    at
 }

@@ -5,8 +5,8 @@ use lib.IntN.{ℤ}
 use lib.Signed.{lt_z}
 use Rattle.fractions.specs.Order.{order, turned}
 use Rattle.fractions.specs.Point.{point_order}
-use Rattle.fractions.specs.declared.Order.{Order}
-use Rattle.fractions.specs.declared.Order.TheVariants.{Less, Equal, Greater}
+use Rattle.std.specs.declared.cmp.Ordering.{Ordering}
+use Rattle.std.specs.declared.cmp.Ordering.TheVariants.{Less, Equal, Greater}
 use Rattle.fractions.specs.declared.Point.{Point}
 use Rattle.fractions.proofs.Points.{point_turned}
 use Rattle.sweep.specs.Ported.{is_less, is_equal}
@@ -22,9 +22,9 @@ is_less_than a b = go (lt_z a b) (lt_z b a)
 
 -- two points are the same where neither is less
 pub neither_less : (p q : Point) → is_equal (point_order p q) ≡ not (is_less (point_order p q)) && not (is_less (point_order q p))
-neither_less p q = go (point_order p q) ∙ ap (λ (o : Order). not (is_less (point_order p q)) && not (is_less o)) (sym (point_turned p q))
+neither_less p q = go (point_order p q) ∙ ap (λ (o : Ordering). not (is_less (point_order p q)) && not (is_less o)) (sym (point_turned p q))
   where
-    go : (o : Order) → is_equal o ≡ not (is_less o) && not (is_less (turned o))
+    go : (o : Ordering) → is_equal o ≡ not (is_less o) && not (is_less (turned o))
     go Less = refl
     go Equal = refl
     go Greater = refl

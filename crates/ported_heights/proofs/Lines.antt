@@ -4,7 +4,6 @@ use mathlib.Core.Bool.{true, false}
 use mathlib.Core.List.{[], ◌∷◌}
 use Prim.Native.Nat.{ℕ, zero, suc, ◌<◌}
 use native.Mathlib.Omega.{arith}
-use lib.Dec.{ltb}
 use lib.IntN.{ℤ, pos, negsuc, neg_ℤ, ◌+ℤ◌, ◌-ℤ◌, ◌*ℤ◌}
 use lib.Signed.{◌≤ℤ◌, ◌<ℤ◌}
 use Rattle.integers.proofs.Identity.{by_ring, terms}
@@ -13,8 +12,8 @@ use Rattle.integers.proofs.Order.{<_cert, ≤_cert, ≡→≤}
 use Rattle.integers.proofs.Naturals.{pos-<, <_pos}
 use Rattle.fractions.specs.Order.{order, and_then}
 use Rattle.fractions.specs.Fraction.{ratio_order}
-use Rattle.fractions.specs.declared.Order.{Order}
-use Rattle.fractions.specs.declared.Order.TheVariants.{Less, Equal, Greater}
+use Rattle.std.specs.declared.cmp.Ordering.{Ordering}
+use Rattle.std.specs.declared.cmp.Ordering.TheVariants.{Less, Equal, Greater}
 use Rattle.fractions.specs.declared.Point.{Point}
 use Rattle.fractions.proofs.Orders.{order_equal, less_order, equal_order, greater_order}
 use Rattle.fractions.proofs.Ratios.{order_scaled}
@@ -22,10 +21,9 @@ use Rattle.line_segment.specs.declared.LineSegment.{LineSegment}
 use Rattle.line_segment.specs.Geometry.{run, rise}
 use Rattle.line_segment.specs.Segment.{moment, over, cramer_of}
 use Rattle.charts.specs.Piece.{is_upright}
-use Rattle.sweep.specs.Ported.{is_less, height_above, height_below, height_order, slope_order, rank_order}
+use Rattle.sweep.specs.Ported.{height_above, height_below, height_order, slope_order, rank_order}
 use Rattle.sweep_geometry.proofs.Heights.{order_diff}
 use Rattle.ported_heights.specs.Heights.{line_order, level_at}
-use Rattle.ported_heights.proofs.Answers.{is_less_than}
 
 -- numbers as far apart compare alike
 order_apart : (a b a' b' : ℤ) → b -ℤ a ≡ b' -ℤ a' → order a b ≡ order a' b'
@@ -140,13 +138,14 @@ module _ (p : Point) (a b : LineSegment) where
         ∙ order_apart _ _ _ _ (two_lines a.min.x a.min.y a.max.x a.max.y b.min.x b.min.y b.max.x b.max.y p.x (pos p.d)))
 
 -- ---- height, then slope, then number
-module _ (piece : ℕ → LineSegment) (p : Point) (i j : ℕ) where
-  pub by_height : {o : Order} → height_order p (piece i) (piece j) ≡ o → is_less (and_then o (and_then (slope_order (piece i) (piece j)) (order (pos i) (pos j)))) ≡ is_less (rank_order piece p i j)
-  unfolding rank_order
-  by_height e = ap (λ (o : Order). is_less (and_then o (and_then (slope_order (piece i) (piece j)) (order (pos i) (pos j))))) (sym e)
+then_assoc : (o s k : Ordering) → and_then (and_then o s) k ≡ and_then o (and_then s k)
+then_assoc Less s k = refl
+then_assoc Equal s k = refl
+then_assoc Greater s k = refl
 
-  pub by_slope : height_order p (piece i) (piece j) ≡ Equal → {o : Order} → slope_order (piece i) (piece j) ≡ o → is_less (and_then o (order (pos i) (pos j))) ≡ is_less (rank_order piece p i j)
-  by_slope h e = ap (λ (o : Order). is_less (and_then o (order (pos i) (pos j)))) (sym e) ∙ by_height h
-
-  pub by_number : height_order p (piece i) (piece j) ≡ Equal → slope_order (piece i) (piece j) ≡ Equal → ltb i j ≡ is_less (rank_order piece p i j)
-  by_number h e = is_less_than (pos i) (pos j) ∙ by_slope h e
+pub by_rank :
+    (piece : ℕ → LineSegment) (p : Point) (i j : ℕ) {o s k : Ordering} →
+    o ≡ height_order p (piece i) (piece j) → s ≡ slope_order (piece i) (piece j) → k ≡ order (pos i) (pos j) →
+    and_then (and_then o s) k ≡ rank_order piece p i j
+unfolding rank_order
+by_rank piece p i j {o} {s} {k} e f g = then_assoc o s k ∙ (λ x. and_then (e x) (and_then (f x) (g x)))

@@ -3,29 +3,23 @@
 #![tactic(auto)]
 
 ghost use Rattle.std.specs.Prelude.{◌≡◌};
-ghost use Rattle.fractions.specs.Order.{turned};
 ghost use Rattle.sweep.specs.Ported.{height_order, slope_order};
 ghost use Rattle.ported_heights.specs.Heights.{line_order, level_at};
 
 use chart_pieces::is_upright;
 use comparison::compare_ratios;
-use fractions::{Order, Point};
+use fractions::Point;
 use line_segment::{EndPoint, LineSegment};
 use segment_crossing::{cramer, rise, run};
+use std::cmp::Ordering;
 
 // The less steep first.
-pub fn slope_order(a: LineSegment, b: LineSegment) -> Order
+pub fn slope_order(a: LineSegment, b: LineSegment) -> Ordering
     ensures { result ≡ slope_order a b }
 {
     let s = rise(a) * run(b);
     let t = rise(b) * run(a);
-    if s < t {
-        Order::Less
-    } else if t < s {
-        Order::Greater
-    } else {
-        Order::Equal
-    }
+    s.cmp(&t)
 }
 
 // A piece that is as high as y at every x.
@@ -45,32 +39,20 @@ fn level(y: i16) -> LineSegment
     LineSegment { min, max }
 }
 
-// The answer with its two sides exchanged.
-fn turn(o: Order) -> Order
-    ensures { result ≡ turned o }
-{
-    match o {
-        Order::Less => Order::Greater,
-        Order::Equal => Order::Equal,
-        Order::Greater => Order::Less,
-    }
-}
-
 // The lower line first, at p's x: of two lines, the less steep is the lower beyond the place where they meet.
-fn line_order(p: Point, a: LineSegment, b: LineSegment) -> Order
+fn line_order(p: Point, a: LineSegment, b: LineSegment) -> Ordering
     ensures { result ≡ line_order p a b }
 {
     let c = cramer(a, b);
     let ahead = compare_ratios(c.x, c.d, p.x, p.d);
     match slope_order(a, b) {
-        Order::Less => ahead,
-        Order::Equal => ahead,
-        Order::Greater => turn(ahead),
+        Ordering::Less | Ordering::Equal => ahead,
+        Ordering::Greater => ahead.reverse(),
     }
 }
 
 // The lower piece first, at p's x. An upright piece has the height of its min; over 0 all sloped ones are equally high.
-pub fn height_order(p: Point, a: LineSegment, b: LineSegment) -> Order
+pub fn height_order(p: Point, a: LineSegment, b: LineSegment) -> Ordering
     ensures { result ≡ height_order p a b }
 {
     let s = a.min;
@@ -84,7 +66,7 @@ pub fn height_order(p: Point, a: LineSegment, b: LineSegment) -> Order
     } else if is_upright(b) {
         line_order(p, a, level(t.y))
     } else if p.d == 0 {
-        Order::Equal
+        Ordering::Equal
     } else {
         line_order(p, a, b)
     }

@@ -10,7 +10,6 @@ ghost use Rattle.ported_run.specs.Running.{Begun, Stopped};
 
 use charts::MOST;
 use fractions::Point;
-use ported_queue::Next;
 use ported_run::{Stop, is_empty, last_at, tally};
 use ported_step::step;
 
@@ -34,12 +33,11 @@ fn go(
     let mut live = 0;
     let mut head = waiting.len();
     let mut end = 0;
-    let mut steps: u32 = 0;
     let mut last = Point { x: 0, y: 0, d: 0 };
     let mut examined: u64 = 0;
-    while steps < budget {
+    for steps in 0..budget {
         match ported_queue::next_point(table, ends, passed, waiting, head) {
-            Next::Nothing => {
+            None => {
                 return Stop {
                     end,
                     steps,
@@ -48,7 +46,7 @@ fn go(
                     examined,
                 };
             }
-            Next::At(p) => {
+            Some(p) => {
                 let at = step(
                     table, p, ends, passed, active, live, marks, waiting, head, bytes, end,
                 );
@@ -56,7 +54,6 @@ fn go(
                 live = at.live;
                 head = at.head;
                 end = at.end;
-                steps += 1;
                 last = p;
                 examined = tally(examined, at.stay, at.live);
             }
@@ -64,9 +61,9 @@ fn go(
     }
     Stop {
         end,
-        steps,
+        steps: budget,
         ended: is_empty(table, ends, passed, waiting, head),
-        last: last_at(steps, last),
+        last: last_at(budget, last),
         examined,
     }
 }

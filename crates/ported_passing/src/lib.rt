@@ -2,7 +2,7 @@
 // pieces flagged as starting, finishing or turning.
 #![tactic(auto)]
 
-ghost use Rattle.std.specs.Prelude.{◌≡◌, [], ◌∷◌, not, ℕ, ◌≤◌, length, set};
+ghost use Rattle.std.specs.Prelude.{◌≡◌, true, false, [], ◌∷◌, not, ℕ, ◌≤◌, ◌<◌, length, set};
 ghost use Rattle.ported_pieces.specs.Table.{chart_in};
 ghost use Rattle.sweep.specs.Lists.{keep};
 ghost use Rattle.ported_arrays.specs.Numbers.{is_min, end_at, crossing_at};
@@ -12,23 +12,29 @@ ghost use Rattle.ported_passing.specs.Passing.{stands_at, EndsPassed, CrossingsP
 use charts::MOST;
 use fractions::Point;
 
-// The end that stands at k is at p.
-fn is_end_at(table: &[i16], ends: &[u16], k: usize, p: Point) -> bool
-    ensures { (n : ℕ) → result ≡ stands_at (end_at (chart_in n table.now) p) ends.now k }
+// How many at the front are ends at p.
+#[tactic(auto, unfolding(crate::specs::Passing::stands_at))]
+fn ends_at(table: &[i16], p: Point, ends: &[u16]) -> usize
+    ensures within { result ≤ length ends.now }
+    ensures passed { (n k : ℕ) → k < result → stands_at (end_at (chart_in n table.now) p) ends.now k ≡ true }
+    ensures stops { (n : ℕ) → stands_at (end_at (chart_in n table.now) p) ends.now result ≡ false }
 {
-    if ends.len() <= k {
-        return false;
-    }
-    ported_pieces::end_at(table, ends[k], p)
+    ends.iter()
+        .take_while(|e| ported_pieces::end_at(table, **e, p))
+        .count()
 }
 
-fn is_crossing_at(table: &[i16], waiting: &[u16], k: usize, p: Point) -> bool
-    ensures { (n : ℕ) → result ≡ stands_at (crossing_at (chart_in n table.now) p) waiting.now k }
+// How many at the front are pairs that cross at p.
+#[tactic(auto, unfolding(crate::specs::Passing::stands_at))]
+fn crossings_at(table: &[i16], p: Point, waiting: &[u16]) -> usize
+    ensures within { result ≤ length waiting.now }
+    ensures passed { (n k : ℕ) → k < result → stands_at (crossing_at (chart_in n table.now) p) waiting.now k ≡ true }
+    ensures stops { (n : ℕ) → stands_at (crossing_at (chart_in n table.now) p) waiting.now result ≡ false }
 {
-    if waiting.len() <= k {
-        return false;
-    }
-    ported_pieces::crossing_at(table, waiting[k], p)
+    waiting
+        .iter()
+        .take_while(|c| ported_pieces::crossing_at(table, **c, p))
+        .count()
 }
 
 fn set_flag(flags: &mut [u8], i: usize)
@@ -74,12 +80,11 @@ pub fn pass_ends(
     requires { (from ≤ length ends.now) × (length ends.now ≤ 65536) }
     ensures { EndsPassed table.now p ends.now from starting.old finishing.old starting.new finishing.new result }
 {
-    let mut k = from;
-    while is_end_at(table, ends, k, p) {
-        flag_end(ends[k], starting, finishing);
-        k += 1;
+    let to = from + ends_at(table, p, &ends[from..]);
+    for e in &ends[from..to] {
+        flag_end(*e, starting, finishing);
     }
-    k
+    to
 }
 
 // The two pieces of pair c flagged, and its mark dropped.
@@ -104,10 +109,9 @@ pub fn pass_crossings(
     requires { (from ≤ length waiting.now) × (length waiting.now ≤ 65536) }
     ensures { CrossingsPassed table.now p waiting.now from turning.old marks.old turning.new marks.new result }
 {
-    let mut k = from;
-    while is_crossing_at(table, waiting, k, p) {
-        flag_crossing(waiting[k], turning, marks);
-        k += 1;
+    let to = from + crossings_at(table, p, &waiting[from..]);
+    for c in &waiting[from..to] {
+        flag_crossing(*c, turning, marks);
     }
-    k
+    to
 }

@@ -6,8 +6,8 @@ use Prim.Native.Nat.{ℕ, ◌<◌}
 use native.Mathlib.Omega.{arith}
 use Rattle.fractions.specs.Order.{turned}
 use Rattle.fractions.specs.Point.{Lowest, point_order}
-use Rattle.fractions.specs.declared.Order.{Order}
-use Rattle.fractions.specs.declared.Order.TheVariants.{Less, Equal, Greater}
+use Rattle.std.specs.declared.cmp.Ordering.{Ordering}
+use Rattle.std.specs.declared.cmp.Ordering.TheVariants.{Less, Equal, Greater}
 use Rattle.fractions.specs.declared.Point.{Point}
 use Rattle.fractions.proofs.Points.{point_itself, point_turned, point_trans}
 use Rattle.fractions.proofs.LowestTerms.{whole_lowest, one_record}
@@ -30,7 +30,7 @@ end_lowest e = whole_lowest e.x e.y
 less_same : (p q : Point) → Lowest p → Lowest q → is_less (point_order p q) ≡ false → is_less (point_order q p) ≡ false → p ≡ q
 less_same p q lp lq e f = one_record p q lp lq (go (point_order p q) e (ap is_less (sym (point_turned p q)) ∙ f))
   where
-    go : (o : Order) → is_less o ≡ false → is_less (turned o) ≡ false → o ≡ Equal
+    go : (o : Ordering) → is_less o ≡ false → is_less (turned o) ≡ false → o ≡ Equal
     go Less e f = clash refl e
     go Equal e f = refl
     go Greater e f = clash refl f

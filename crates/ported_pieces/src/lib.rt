@@ -12,7 +12,7 @@ ghost use Rattle.ported_arrays.specs.Numbers.{pair_of, end_of, end_before, end_a
 ghost use Rattle.ported_pieces.specs.Table.{number_in, piece_of, piece_in, chart_in, rough_at};
 
 use charts::MOST;
-use fractions::{Order, Point};
+use fractions::Point;
 use integers::size;
 use line_segment::{EndPoint, LineSegment, Meeting};
 
@@ -80,6 +80,7 @@ pub fn end_point(table: &[i16], e: u16) -> Point
 }
 
 // End a stands before end b.
+// by hand: a pair to compare as one would read both ys, and they are read only where the xs are equal
 pub fn end_before(table: &[i16], a: u16, b: u16) -> bool
     ensures { (n : ℕ) → result ≡ end_before (chart_in n table.now) a b }
 {
@@ -103,21 +104,13 @@ pub fn end_before(table: &[i16], a: u16, b: u16) -> bool
 pub fn less(p: Point, q: Point) -> bool
     ensures { result ≡ is_less (point_order p q) }
 {
-    match comparison::compare_points(p, q) {
-        Order::Less => true,
-        Order::Equal => false,
-        Order::Greater => false,
-    }
+    comparison::compare_points(p, q).is_lt()
 }
 
 pub fn same(p: Point, q: Point) -> bool
     ensures { result ≡ is_equal (point_order p q) }
 {
-    match comparison::compare_points(p, q) {
-        Order::Less => false,
-        Order::Equal => true,
-        Order::Greater => false,
-    }
+    comparison::compare_points(p, q).is_eq()
 }
 
 // End e stands at p.
@@ -209,13 +202,8 @@ pub fn before(table: &[i16], p: Point, i: u8, j: u8) -> bool
 {
     let a = piece(table, i as u16);
     let b = piece(table, j as u16);
-    match ported_heights::height_order(p, a, b) {
-        Order::Less => true,
-        Order::Equal => match ported_heights::slope_order(a, b) {
-            Order::Less => true,
-            Order::Equal => i < j,
-            Order::Greater => false,
-        },
-        Order::Greater => false,
-    }
+    ported_heights::height_order(p, a, b)
+        .then_with(|| ported_heights::slope_order(a, b))
+        .then(i.cmp(&j))
+        .is_lt()
 }

@@ -6,25 +6,25 @@ use Prim.Native.Nat.{ℕ, ◌≤◌, ◌<◌}
 use lib.IntN.{ℤ}
 use lib.ListN.{length, get_or, drop, drop_of_length-le}
 use lib.Seq.{drop-cons}
+use Rattle.std.specs.Prelude.{None, Some}
 use Rattle.fractions.specs.Point.{point_order}
 use Rattle.sweep.specs.Chart.{at}
 use Rattle.sweep.specs.Ported.{is_less}
 use Rattle.ported_pieces.specs.Table.{chart_in}
 use Rattle.ported_arrays.specs.Numbers.{pair_of, end_of}
 use Rattle.ported_arrays.specs.Run.{next_by'}
-use Rattle.ported_queue.specs.declared.Next.TheVariants.{Nothing, At}
 use Rattle.ported_queue.specs.Next.{next_by}
 
 module _ (n : ℕ) (table : List ℤ) (ends waiting : List ℕ) (k h : ℕ) where
-  pub neither : length ends ≤ k → length waiting ≤ h → Nothing ≡ next_by n table (drop k ends) (drop h waiting)
+  pub neither : length ends ≤ k → length waiting ≤ h → None ≡ next_by n table (drop k ends) (drop h waiting)
   unfolding next_by next_by'
   neither a b = rw (drop_of_length-le ends a, drop_of_length-le waiting b) refl
 
-  pub end_only : k < length ends → length waiting ≤ h → At (end_of (chart_in n table) (get_or ends k 0)) ≡ next_by n table (drop k ends) (drop h waiting)
+  pub end_only : k < length ends → length waiting ≤ h → Some (end_of (chart_in n table) (get_or ends k 0)) ≡ next_by n table (drop k ends) (drop h waiting)
   unfolding next_by next_by'
   end_only a b = rw (drop-cons ends k 0 a, drop_of_length-le waiting b) refl
 
-  pub pair_only : length ends ≤ k → h < length waiting → At (at (chart_in n table) (pair_of (get_or waiting h 0))) ≡ next_by n table (drop k ends) (drop h waiting)
+  pub pair_only : length ends ≤ k → h < length waiting → Some (at (chart_in n table) (pair_of (get_or waiting h 0))) ≡ next_by n table (drop k ends) (drop h waiting)
   unfolding next_by next_by'
   pair_only a b = rw (drop_of_length-le ends a, drop-cons waiting h 0 b) refl
 
@@ -32,10 +32,10 @@ module _ (n : ℕ) (table : List ℤ) (ends waiting : List ℕ) (k h : ℕ) wher
     abbrev first : Bool
     first = is_less (point_order (at (chart_in n table) (pair_of (get_or waiting h 0))) (end_of (chart_in n table) (get_or ends k 0)))
 
-    pub pair_first : first ≡ true → At (at (chart_in n table) (pair_of (get_or waiting h 0))) ≡ next_by n table (drop k ends) (drop h waiting)
+    pub pair_first : first ≡ true → Some (at (chart_in n table) (pair_of (get_or waiting h 0))) ≡ next_by n table (drop k ends) (drop h waiting)
     unfolding next_by next_by'
     pair_first e = rw (drop-cons ends k 0 a, drop-cons waiting h 0 b) (rw e refl)
 
-    pub end_first : first ≡ false → At (end_of (chart_in n table) (get_or ends k 0)) ≡ next_by n table (drop k ends) (drop h waiting)
+    pub end_first : first ≡ false → Some (end_of (chart_in n table) (get_or ends k 0)) ≡ next_by n table (drop k ends) (drop h waiting)
     unfolding next_by next_by'
     end_first e = rw (drop-cons ends k 0 a, drop-cons waiting h 0 b) (rw e refl)

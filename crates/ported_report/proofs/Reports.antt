@@ -2,8 +2,9 @@
 use mathlib.Core.Path.{◌≡◌, refl, sym}
 use mathlib.Core.Bool.{Bool, true, false, cond, not, ◌&&◌}
 use mathlib.Core.List.{List, [], ◌∷◌, ◌++◌, map}
-use Prim.Native.Nat.{ℕ, suc, ◌+◌, ◌≤◌, ◌<◌}
+use Prim.Native.Nat.{ℕ, ◌+◌, ◌≤◌, ◌<◌}
 use native.Mathlib.Numerals.{add-one}
+use native.Mathlib.Omega.{arith}
 use lib.Dec.{eqb}
 use lib.ListN.{length, get_or, drop, drop_of_length-le}
 use lib.Seq.{drop-cons}
@@ -41,16 +42,16 @@ pub row_step : {S : Type 0} (f : Pair → S → S) (i : ℕ) (l : List ℕ) (y :
 unfolding each
 row_step f i l y s h = rw (drop-cons l y 0 h, add-one y) refl
 
-pub rows_step : {S : Type 0} (f : Pair → S → S) (l : List ℕ) (x : ℕ) (s : S) → x < length l
-    → each f (pairs (drop x l)) s ≡ each f (pairs (drop (x + 1) l)) (each f (map (λ j. (get_or l x 0, j)) (drop (x + 1) l)) s)
+pub rows_step : {S : Type 0} (f : Pair → S → S) (i : ℕ) (l rest : List ℕ) (s : S) → rest ≡ i ∷ l
+    → each f (pairs rest) s ≡ each f (pairs l) (each f (map (λ j. (i, j)) l) s)
 unfolding pairs
-rows_step f l x s h =
-    rw (drop-cons l x 0 h, add-one x) (each_append f (map (λ j. (get_or l x 0, j)) (drop (suc x) l)) (pairs (drop (suc x) l)) s)
+rows_step f i l rest s e = rw e (each_append f (map (λ j. (i, j)) l) (pairs l) s)
 
 pub row_end : {S : Type 0} (f : Pair → S → S) (i : ℕ) (l : List ℕ) (y : ℕ) (s : S) → length l ≤ y → each f (map (λ j. (i, j)) (drop y l)) s ≡ s
 unfolding each
 row_end f i l y s h = rw (drop_of_length-le l h) refl
 
-pub rows_end : {S : Type 0} (f : Pair → S → S) (l : List ℕ) (x : ℕ) (s : S) → length l ≤ x → each f (pairs (drop x l)) s ≡ s
+pub rows_end : {S : Type 0} (f : Pair → S → S) (l : List ℕ) (s : S) → length l ≡ 0 → each f (pairs l) s ≡ s
 unfolding each pairs
-rows_end f l x s h = rw (drop_of_length-le l h) refl
+rows_end f [] s h = refl
+rows_end f (x ∷ l) s h = absurd (omega arith)

@@ -1,7 +1,7 @@
 // "Each pair (i, j), i < j, in order, that is not yet listed and passes the test (i asking) is listed."
 #![tactic(auto)]
 
-ghost use Rattle.std.specs.Prelude.{◌≡◌, ℕ, ◌+◌, ◌≤◌, ◌<◌, length, drop, get_or, List, map};
+ghost use Rattle.std.specs.Prelude.{◌≡◌, ℕ, ◌≤◌, length, drop, List, map};
 ghost use Rattle.ported_pieces.specs.Table.{chart_in};
 ghost use Rattle.sweep.specs.Lists.{pairs};
 ghost use Rattle.sweep.specs.Step.{each};
@@ -25,24 +25,21 @@ fn report_pair(table: &[i16], i: u8, j: u8, marks: &mut [u8], bytes: &mut [u8], 
     }
 }
 
-// The pairs of the piece at place x with those behind it.
+// The pairs of piece i with those behind it.
 fn report_row(
     table: &[i16],
-    here: &[u8],
-    x: usize,
+    i: u8,
+    behind: &[u8],
     marks: &mut [u8],
     bytes: &mut [u8],
     end: usize,
 ) -> usize
-    requires { x < length here.now }
     ensures { (n : ℕ) (w : List ℕ) (s : ℕ) → book marks.new w s bytes.new result
-        ≡ each (report (chart_in n table.now)) (map (λ j. (get_or here.now x 0, j)) (drop (x + 1) here.now)) (book marks.old w s bytes.old end) }
+        ≡ each (report (chart_in n table.now)) (map (λ j. (i, j)) behind.now) (book marks.old w s bytes.old end) }
 {
-    let i = here[x];
-    let count = here.len();
     let mut last = end;
-    for y in x + 1..count {
-        last = report_pair(table, i, here[y], marks, bytes, last);
+    for j in behind {
+        last = report_pair(table, i, *j, marks, bytes, last);
     }
     last
 }
@@ -60,10 +57,11 @@ pub fn report_all(
     ensures { (n : ℕ) (w : List ℕ) (s : ℕ) → book marks.new w s bytes.new result
         ≡ each (report (chart_in n table.now)) (pairs (drop h here.now)) (book marks.old w s bytes.old end) }
 {
-    let count = here.len();
     let mut last = end;
-    for x in h..count {
-        last = report_row(table, here, x, marks, bytes, last);
+    let mut rest = &here[h..];
+    while let Some((i, behind)) = rest.split_first() {
+        last = report_row(table, *i, behind, marks, bytes, last);
+        rest = behind;
     }
     last
 }

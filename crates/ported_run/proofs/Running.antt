@@ -1,10 +1,11 @@
 -- What holds of the arrays while a run goes on: they are the sheet after so many steps.
 use mathlib.Core.Path.{◌≡◌, refl, sym, ap, ◌∙◌, subst}
-use mathlib.Core.Bool.{Bool, true, false, cond}
+use mathlib.Core.Bool.{Bool, true, false, cond, not}
 use mathlib.Core.List.Memᴰ
 use mathlib.Core.List.{List, []}
 use mathlib.Core.List.{Memᴰ as In}
-use mathlib.Core.Option.{Option, none, some}
+use mathlib.Core.Option as maybe
+use mathlib.Core.Option.{none, some}
 use Prim.Native.Nat.{ℕ, zero, suc, ◌+◌, ◌-◌, ◌*◌, ◌≤◌, ◌<◌}
 use native.Mathlib.Nat.{suc-add, zero-add, le_refl}
 use native.Mathlib.Numerals.{add-one}
@@ -13,6 +14,7 @@ use borrow.Author.Tests.{ne_eqb}
 use lib.Dec.{eqb}
 use lib.IntN.{ℤ}
 use lib.ListN.{length, drop, drop_of_length-le}
+use Rattle.std.specs.Prelude.{Option, None, Some, is_some}
 use Rattle.fractions.specs.declared.Point.{Point}
 use Rattle.charts.specs.Chart.{most}
 use Rattle.sweep.specs.Chart.{Chart}
@@ -28,12 +30,7 @@ use Rattle.ported_arrays.proofs.Cells.{cell_small}
 use Rattle.ported_pieces.specs.Table.{piece_in, chart_in}
 use Rattle.ported_pieces.proofs.Ordering.{ordered}
 use Rattle.ported_gather.specs.Joined.{AllBelow}
-use Rattle.ported_queue.specs.declared.Next.{Next}
-use Rattle.ported_queue.specs.declared.Next.TheVariants.{Nothing}
-use Rattle.ported_queue.specs.declared.Next.TheVariants.{At as NextAt}
 use Rattle.ported_queue.specs.Next.{as_next, next_by}
-use Rattle.ported_run.specs.declared.Last.{Last}
-use Rattle.ported_run.specs.declared.Last.TheVariants.{None, At}
 use Rattle.ported_ledger.specs.Views.{ledger}
 use Rattle.ported_step.specs.Views.{sheet}
 use Rattle.examinations.specs.Examined.{examined}
@@ -44,26 +41,29 @@ use Rattle.ported_run.proofs.Agreeing.{agrees}
 use Rattle.ported_run.proofs.Counting.{none_more}
 
 -- ---- the next point
-abbrev pub back : Next → Option Point
-back Nothing = none
-back (NextAt p) = some p
+abbrev pub back : Option Point → maybe.Option Point
+back None = none
+back (Some p) = some p
 
-back_is : (o : Option Point) → back (as_next o) ≡ o
+back_is : (o : maybe.Option Point) → back (as_next o) ≡ o
 back_is none = refl
 back_is (some p) = refl
 
-pub told : (n : ℕ) (table : List ℤ) (ends waiting : List ℕ) {r : Next} → r ≡ next_by n table ends waiting → next_by' (chart_in n table) ends waiting ≡ back r
+pub told : (n : ℕ) (table : List ℤ) (ends waiting : List ℕ) {r : Option Point} → r ≡ next_by n table ends waiting → next_by' (chart_in n table) ends waiting ≡ back r
 unfolding next_by
 told n table ends waiting e = sym (back_is (next_by' (chart_in n table) ends waiting)) ∙ ap back (sym e)
 
-module _ (n : ℕ) (table : List ℤ) (ends waiting : List ℕ) {r : Next} (e : r ≡ next_by n table ends waiting) where
-  pub empty : r ≡ Nothing → true ≡ is_none (chart_in n table) (next_by' (chart_in n table) ends waiting)
-  unfolding is_none
-  empty h = rw (told n table ends waiting e ∙ ap back h) refl
-
-  pub not_empty : (p : Point) → r ≡ NextAt p → false ≡ is_none (chart_in n table) (next_by' (chart_in n table) ends waiting)
-  unfolding is_none
-  not_empty p h = rw (told n table ends waiting e ∙ ap back h) refl
+-- whether there is none, as `Option::is_none` tells it
+pub emptied : (n : ℕ) (table : List ℤ) (ends waiting : List ℕ) {r : Option Point} {b : Bool} → r ≡ next_by n table ends waiting → is_some r ≡ not b
+    → b ≡ is_none (chart_in n table) (next_by' (chart_in n table) ends waiting)
+unfolding is_none
+emptied n table ends waiting {r} {b} e h = go r b h ∙ ap (is_none (chart_in n table)) (sym (told n table ends waiting e))
+  where
+    go : (r : Option Point) (b : Bool) → is_some r ≡ not b → b ≡ is_none (chart_in n table) (back r)
+    go None true h = refl
+    go None false h = cc
+    go (Some p) true h = cc
+    go (Some p) false h = refl
 
 onwards_to : (C : Chart) (s : Sheet C) (m : ℕ) (p : C.Point) → next C (onwards C m s) ≡ some p → onwards C (suc m) s ≡ step_on C (onwards C m s) p
 unfolding onwards move_to
@@ -112,13 +112,13 @@ stays_stopped n table lent e f S =
     }
 
 -- ---- the loop
-abbrev pub last_of : ℕ → Point → Option Point
+abbrev pub last_of : ℕ → Point → maybe.Option Point
 last_of steps p = cond (eqb steps 0) none (some p)
 
 as_last_lem : (steps : ℕ) (p : Point) → last_at steps p ≡ as_last (last_of steps p)
 as_last_lem steps p = go (eqb steps 0)
   where
-    go : (b : Bool) → cond b None (At p) ≡ as_last (cond b none (some p))
+    go : (b : Bool) → cond b None (Some p) ≡ as_last (cond b none (some p))
     go true = refl
     go false = refl
 
@@ -187,7 +187,7 @@ module _ {table : List ℤ} {ends active₀ marks₀ waiting₀ bytes₀ : List 
       unfolding next
       next_is = ap (next (chart_in n table)) (G.held n B)
 
-      stopped_at : {e : Bool} {l : Last} {t : ℕ} → e ≡ is_none (chart_in n table) (next (chart_in n table) (sheet_at n steps)) → l ≡ last_at steps last
+      stopped_at : {e : Bool} {l : Option Point} {t : ℕ} → e ≡ is_none (chart_in n table) (next (chart_in n table) (sheet_at n steps)) → l ≡ last_at steps last
           → t ≡ examined (chart_in n table) steps
           → Stopped n table steps bytes₀ (record { end = end; steps = steps; ended = e; last = l; examined = t }) bytes
       stopped_at f g x =
@@ -201,7 +201,7 @@ module _ {table : List ℤ} {ends active₀ marks₀ waiting₀ bytes₀ : List 
           }
 
       -- the budget is spent
-      pub spent_all : budget ≤ steps → {e : Bool} {l : Last} {t : ℕ} → e ≡ is_none (chart_in n table) (next_by' (chart_in n table) (drop passed ends) (drop head waiting)) → l ≡ last_at steps last
+      pub spent_all : budget ≤ steps → {e : Bool} {l : Option Point} {t : ℕ} → e ≡ is_none (chart_in n table) (next_by' (chart_in n table) (drop passed ends) (drop head waiting)) → l ≡ last_at steps last
           → t ≡ examined (chart_in n table) steps
           → Stopped n table budget bytes₀ (record { end = end; steps = steps; ended = e; last = l; examined = t }) bytes
       spent_all h {e} {l} {t} f g x =
@@ -209,7 +209,7 @@ module _ {table : List ℤ} {ends active₀ marks₀ waiting₀ bytes₀ : List 
           subst (λ (m : ℕ). Stopped n table m bytes₀ (record { end = end; steps = steps; ended = e; last = l; examined = t }) bytes) q (stopped_at (f ∙ ap (is_none (chart_in n table)) next_is) g x)
 
       -- the queue is empty
-      pub ran_out : {r : Next} → r ≡ next_by n table (drop passed ends) (drop head waiting) → r ≡ Nothing → {l : Last} {t : ℕ} → l ≡ last_at steps last
+      pub ran_out : {r : Option Point} → r ≡ next_by n table (drop passed ends) (drop head waiting) → r ≡ None → {l : Option Point} {t : ℕ} → l ≡ last_at steps last
           → t ≡ examined (chart_in n table) steps
           → Stopped n table budget bytes₀ (record { end = end; steps = steps; ended = true; last = l; examined = t }) bytes
       unfolding is_none
@@ -223,8 +223,8 @@ module _ {table : List ℤ} {ends active₀ marks₀ waiting₀ bytes₀ : List 
     module _ {p : Point} {active' marks' waiting' bytes' : List ℕ} {passed' live' head' end' : ℕ} where
       pub advances : steps < budget → passed' ≤ length ends → live' ≤ length active → head' ≤ length waiting
           → length active' ≡ length active → length marks' ≡ length marks → length waiting' ≡ length waiting → length bytes' ≡ length bytes
-          → {r : Next} → ((n : ℕ) → r ≡ next_by n table (drop passed ends) (drop head waiting)) → r ≡ NextAt p
-          → ((n : ℕ) (l : Option Point) (m : ℕ)
+          → {r : Option Point} → ((n : ℕ) → r ≡ next_by n table (drop passed ends) (drop head waiting)) → r ≡ Some p
+          → ((n : ℕ) (l : maybe.Option Point) (m : ℕ)
           → sheet n table ends passed' active' live' (ledger marks' waiting' head' bytes' end') (some p) (suc m)
           ≡ step_on (chart_in n table) (sheet n table ends passed active live (ledger marks waiting head bytes end) l m) p)
           → Going table ends active₀ marks₀ waiting₀ bytes₀ budget active' marks' waiting' bytes' passed' live' head' end' (steps + 1) p
@@ -241,6 +241,6 @@ module _ {table : List ℤ} {ends active₀ marks₀ waiting₀ bytes₀ : List 
             held = λ n B. rw (add-one steps, ne_eqb (suc steps) 0 (λ q. absurd (omega (arith, q)))) (does n (last_of steps last) steps ∙ ap (λ (s : Sheet (chart_in n table)). step_on (chart_in n table) s p) (G.held n B) ∙ sym (one_on n B (at n) is));
           }
         where
-          one_on : (n : ℕ) → Begun n table ends active₀ marks₀ waiting₀ bytes₀ → {r : Next} → r ≡ next_by n table (drop passed ends) (drop head waiting) → r ≡ NextAt p
+          one_on : (n : ℕ) → Begun n table ends active₀ marks₀ waiting₀ bytes₀ → {r : Option Point} → r ≡ next_by n table (drop passed ends) (drop head waiting) → r ≡ Some p
               → sheet_at n (suc steps) ≡ step_on (chart_in n table) (sheet_at n steps) p
           one_on n B f h = onwards_to (chart_in n table) (start (chart_in n table) places bytes₀) steps p (sym (next_is n B) ∙ told n table (drop passed ends) (drop head waiting) f ∙ ap back h)

@@ -7,13 +7,12 @@ use native.Mathlib.Numerals.{add-one}
 use native.Mathlib.Omega.{arith}
 use lib.IntN.{ℤ}
 use lib.ListN.{length, drop}
+use Rattle.std.specs.Prelude.{Option, Some}
 use Rattle.fractions.specs.declared.Point.{Point}
 use Rattle.charts.specs.Chart.{most}
 use Rattle.ported_arrays.specs.Event.{Sheet, stay, ranged, step}
 use Rattle.ported_arrays.specs.Run.{next, onwards, start}
 use Rattle.ported_pieces.specs.Table.{chart_in}
-use Rattle.ported_queue.specs.declared.Next.{Next}
-use Rattle.ported_queue.specs.declared.Next.TheVariants.{At as NextAt}
 use Rattle.ported_queue.specs.Next.{next_by}
 use Rattle.ported_ledger.specs.Views.{ledger}
 use Rattle.ported_step.specs.Views.{Held, held}
@@ -43,7 +42,7 @@ module _ {table : List ℤ} {ends active₀ marks₀ waiting₀ bytes₀ : List 
     ranged_now S n = ap (λ (s : Sheet (chart_in n table)). s.active) (S.does n (last_of steps last) steps)
 
     counts : {p : Point} {after : Held table} {stays live' : ℕ} {tally tally' : ℕ} → Tallied table ends active₀ marks₀ waiting₀ bytes₀ steps tally
-        → {r : Next} → ((n : ℕ) → r ≡ next_by n table (drop passed ends) (drop head waiting)) → r ≡ NextAt p
+        → {r : Option Point} → ((n : ℕ) → r ≡ next_by n table (drop passed ends) (drop head waiting)) → r ≡ Some p
         → Steps table p before after stays
         → ((n : ℕ) → length (after n (some p) (suc steps)).active ≡ live')
         → tally' ≡ tally + ((stays - 1) + (live' - 1))
@@ -57,7 +56,7 @@ module _ {table : List ℤ} {ends active₀ marks₀ waiting₀ bytes₀ : List 
 
     pub tallies : {p : Point} {after : Held table} {stays live' : ℕ} {tally tally' : ℕ} → Tallied table ends active₀ marks₀ waiting₀ bytes₀ steps tally
         → length active ≡ most → stays ≤ length active → live' ≤ length active
-        → {r : Next} → ((n : ℕ) → r ≡ next_by n table (drop passed ends) (drop head waiting)) → r ≡ NextAt p
+        → {r : Option Point} → ((n : ℕ) → r ≡ next_by n table (drop passed ends) (drop head waiting)) → r ≡ Some p
         → Steps table p before after stays
         → ((n : ℕ) → length (after n (some p) (suc steps)).active ≡ live')
         → tally' ≡ tally + ((stays - 1) + (live' - 1))

@@ -1,5 +1,5 @@
 -- What the arrays hold when a run begins, and what is told where it stops.
-use Rattle.std.specs.Prelude.{◌≡◌, cond, List, [], ℕ, ◌-◌, ◌*◌, ◌/◌, ◌≤◌, ◌<◌, eqb, ℤ, length}
+use Rattle.std.specs.Prelude.{◌≡◌, cond, List, [], ℕ, ◌-◌, ◌*◌, ◌/◌, ◌≤◌, ◌<◌, eqb, ℤ, length, Option, None, Some}
 use Rattle.fractions.specs.declared.Point.{Point}
 use Rattle.line_segment.specs.Piece.{HasLength}
 use Rattle.charts.specs.Chart.{most}
@@ -13,8 +13,6 @@ use Rattle.ported_arrays.specs.Event.{Sheet}
 use Rattle.ported_arrays.specs.Run.{blank, next, onwards, start}
 use Rattle.ported_pieces.specs.Table.{piece_in, chart_in}
 use Rattle.examinations.specs.Examined.{examined}
-use Rattle.ported_run.specs.declared.Last.{Last}
-use Rattle.ported_run.specs.declared.Last.TheVariants.{None, At}
 use Rattle.ported_run.specs.declared.Stop.{Stop}
 use Rattle.ported_run.specs.Last.{as_last}
 
@@ -22,8 +20,8 @@ use Rattle.ported_run.specs.Last.{as_last}
 abbrev pub places : ℕ
 places = most * (most - 1) / 2
 
-abbrev pub last_at : ℕ → Point → Last
-last_at steps p = cond (eqb steps 0) None (At p)
+abbrev pub last_at : ℕ → Point → Option Point
+last_at steps p = cond (eqb steps 0) None (Some p)
 
 pub record Begun (n : ℕ) (table : List ℤ) (ends active marks waiting bytes : List ℕ) : Type 0 where
   pub few : n ≤ most

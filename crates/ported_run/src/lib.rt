@@ -10,14 +10,6 @@ ghost use Rattle.ported_arrays.specs.Run.{next_by'};
 ghost use Rattle.ported_run.specs.Running.{last_at};
 
 use fractions::Point;
-use ported_queue::Next;
-
-// The last point visited, or none.
-#[derive(Clone, Copy)]
-pub enum Last {
-    None,
-    At(Point),
-}
 
 // Where a run stops: the end of the list, the steps done, whether the queue is empty, the last point, and how many adjacent
 // pairs were examined.
@@ -26,14 +18,14 @@ pub struct Stop {
     pub end: usize,
     pub steps: u32,
     pub ended: bool,
-    pub last: Last,
+    pub last: Option<Point>,
     pub examined: u64,
 }
 
-pub fn last_at(steps: u32, p: Point) -> Last
+pub fn last_at(steps: u32, p: Point) -> Option<Point>
     ensures { result ≡ last_at steps p }
 {
-    if steps == 0 { Last::None } else { Last::At(p) }
+    if steps == 0 { None } else { Some(p) }
 }
 
 // How many adjacent pairs so many pieces have.
@@ -55,8 +47,5 @@ pub fn tally(examined: u64, stay: usize, live: usize) -> u64
 pub fn is_empty(table: &[i16], ends: &[u16], passed: usize, waiting: &[u16], head: usize) -> bool
     ensures { (n : ℕ) → result ≡ is_none (chart_in n table.now) (next_by' (chart_in n table.now) (drop passed ends.now) (drop head waiting.now)) }
 {
-    match ported_queue::next_point(table, ends, passed, waiting, head) {
-        Next::Nothing => true,
-        Next::At(_) => false,
-    }
+    ported_queue::next_point(table, ends, passed, waiting, head).is_none()
 }

@@ -12,8 +12,8 @@ use lib.Dec.{ltb}
 use lib.IntN.{ℤ, pos}
 use lib.ListN.{length, get_or, set, replicate, length-set}
 use lib.Seq.{get_or-set_same, get_or-set_other}
-use Rattle.fractions.specs.declared.Order.{Order}
-use Rattle.fractions.specs.declared.Order.TheVariants.{Less, Equal, Greater}
+use Rattle.std.specs.declared.cmp.Ordering.{Ordering}
+use Rattle.std.specs.declared.cmp.Ordering.TheVariants.{Less, Equal, Greater}
 use Rattle.line_segment.specs.declared.EndPoint.{EndPoint}
 use Rattle.line_segment.specs.declared.LineSegment.{LineSegment}
 use Rattle.line_segment.specs.Piece.{end_order, first_included, second_included, join_by, join_of, piece_of}
@@ -173,7 +173,7 @@ past (x ∷ l) (suc i) h = past l i (omega arith)
 abbrev origin : EndPoint
 origin = record { x = pos 0; y = pos 0; included = false }
 
-joined : (o : Order) → join_by o origin origin ≡ record { min = origin; max = origin }
+joined : (o : Ordering) → join_by o origin origin ≡ record { min = origin; max = origin }
 unfolding join_by
 joined Less = refl
 joined Equal = refl

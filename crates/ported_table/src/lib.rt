@@ -45,6 +45,7 @@ pub fn fill(list: &[i32], n: usize, table: &mut [i16])
     requires { n ≤ most }
     ensures { table.new ≡ filled list.now n table.old }
 {
+    // by number: a piece's number finds it in either array, and the one written to may end within a piece
     for i in 0..n {
         write(table, i, piece_at(list, i));
     }

@@ -32,6 +32,7 @@ fn print_list(number: u8, list: &[i32])
     let bytes = 2 * swept.pairs;
     let parts = part_text::parts_of(bytes);
     let mut text = [0u8; LONGEST];
+    // by number: a part is known by its number alone, and no list holds them
     for part in 0..parts {
         write_part(number, list, swept, &pairs[..bytes], part, &mut text);
     }

@@ -10,7 +10,7 @@ use Rattle.line_segment.specs.Piece.{HasLength}
 use Rattle.charts.specs.Answer.{listing_of}
 use Rattle.charts.specs.Chart.{most, verdict_of}
 use Rattle.charts.specs.Piece.{piece_at}
-use Rattle.charts.specs.declared.Verdict.TheVariants.{Accepted}
+use Rattle.charts.specs.Verdict.{Accepted}
 use Rattle.charts.proofs.Accepted.{accepted_most, pieces_have_length}
 use Rattle.charts.proofs.Listing.{listing_goes, listing_refuses_exactly}
 use Rattle.sweep.specs.Run.{run, answer_of, answer}

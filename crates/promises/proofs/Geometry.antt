@@ -12,8 +12,8 @@ use lib.IntN.{ℤ}
 use lib.ListN.{length, length-map}
 use Rattle.fractions.specs.Order.{turned}
 use Rattle.fractions.specs.Point.{point_order, lowest_of}
-use Rattle.fractions.specs.declared.Order.{Order}
-use Rattle.fractions.specs.declared.Order.TheVariants.{Less, Equal, Greater}
+use Rattle.std.specs.declared.cmp.Ordering.{Ordering}
+use Rattle.std.specs.declared.cmp.Ordering.TheVariants.{Less, Equal, Greater}
 use Rattle.fractions.specs.declared.Point.{Point}
 use Rattle.fractions.proofs.Promises.{orders_points, lowest_terms}
 use Rattle.line_segment.specs.declared.LineSegment.{LineSegment}
@@ -27,7 +27,7 @@ use Rattle.line_segment.proofs.Lying.{same_lies}
 use Rattle.line_segment.proofs.Promises.{says_yes_exactly, overlap_exactly, crossing_is_cramers}
 use Rattle.charts.specs.Chart.{verdict_of}
 use Rattle.charts.specs.Piece.{piece_at, is_upright, no_upright}
-use Rattle.charts.specs.declared.Verdict.TheVariants.{Accepted}
+use Rattle.charts.specs.Verdict.{Accepted}
 use Rattle.charts.proofs.Accepted.{pieces_have_length}
 use Rattle.charts.proofs.Rows.{is_true, is_false, says_eq}
 use Rattle.charts.proofs.Upright.{upright_none, upright_not, upright_found}
@@ -58,7 +58,7 @@ yes_meets Nothing = refl
 yes_meets Crossing = refl
 yes_meets (Overlap s) = refl
 
-pub less_is : (o : Order) → is_less o ≡ true → o ≡ Less
+pub less_is : (o : Ordering) → is_less o ≡ true → o ≡ Less
 less_is Less e = refl
 less_is Equal e = clash e refl
 less_is Greater e = clash e refl
@@ -67,7 +67,7 @@ less_is Greater e = clash e refl
 pub least_alike : (a b : LineSegment) (p q : Point) → LeastCommon a b p → LeastCommon a b q → point_order p q ≡ Equal
 least_alike a b p q h k = go (point_order p q) refl
   where
-    go : (o : Order) → point_order p q ≡ o → o ≡ Equal
+    go : (o : Ordering) → point_order p q ≡ o → o ≡ Equal
     go Less e = absurd (k.least p h.common (orders_points.other_way p q ∙ ap turned e))
     go Equal e = refl
     go Greater e = absurd (h.least q k.common e)

@@ -11,7 +11,7 @@ use Rattle.fractions.specs.declared.Point.{Point}
 use Rattle.charts.specs.Answer.{listing_of}
 use Rattle.charts.specs.Chart.{verdict_of}
 use Rattle.charts.specs.Piece.{piece_at}
-use Rattle.charts.specs.declared.Verdict.TheVariants.{Accepted}
+use Rattle.charts.specs.Verdict.{Accepted}
 use Rattle.naive.specs.Pairs.{bytes, over}
 use Rattle.sweep.specs.Run.{answer_of, answer, visited}
 use Rattle.sweep.specs.Ported.{is_less, rank_order, ported}

@@ -5,22 +5,24 @@ use mathlib.Core.Logic.{◌⊎◌, ◌≢◌, ◌↔◌, inl, inr, ⊎_elim}
 use mathlib.Core.Bool.{Bool, true, false}
 use mathlib.Core.List.{List, [], ◌∷◌, ◌++◌}
 use mathlib.Core.List.{Memᴰ as In}
-use mathlib.Core.Option.{Option, none, some}
+use mathlib.Core.Option as maybe
+use mathlib.Core.Option.{none, some}
 use Prim.Native.Nat.{ℕ, zero, suc, ◌+◌, ◌*◌, ◌≤◌, min}
 use native.Mathlib.Omega.{arith}
 use lib.IntN.{ℤ}
 use lib.ListN.{length, take, length-take}
+use Rattle.std.specs.Prelude.{Option, None, Some}
 use Rattle.fractions.specs.Order.{turned}
 use Rattle.fractions.specs.Point.{point_order}
-use Rattle.fractions.specs.declared.Order.{Order}
-use Rattle.fractions.specs.declared.Order.TheVariants.{Less, Equal, Greater}
+use Rattle.std.specs.declared.cmp.Ordering.{Ordering}
+use Rattle.std.specs.declared.cmp.Ordering.TheVariants.{Less, Equal, Greater}
 use Rattle.fractions.specs.declared.Point.{Point}
 use Rattle.fractions.proofs.Promises.{orders_points}
 use Rattle.line_segment.specs.declared.LineSegment.{LineSegment}
 use Rattle.charts.specs.Answer.{listing_of}
 use Rattle.charts.specs.Chart.{verdict_of}
 use Rattle.charts.specs.Piece.{piece_at}
-use Rattle.charts.specs.declared.Verdict.TheVariants.{Accepted, Refused}
+use Rattle.charts.specs.Verdict.{Accepted, Refused}
 use Rattle.charts.proofs.Listing.{listing_goes, listing_refuses_exactly}
 use Rattle.naive.specs.Pairs.{bytes, over}
 use Rattle.sweep.specs.Lists.{Pair, last_of, Pairwise}
@@ -35,8 +37,6 @@ use Rattle.sweep.proofs.Lists.{pairwise_map}
 use Rattle.sweep.proofs.Tests.{clash}
 use Rattle.ported_arrays.proofs.Distinct.{distinct_fit}
 use Rattle.sweep_geometry.specs.Demand.{LeastCommon}
-use Rattle.ported_run.specs.declared.Last.{Last}
-use Rattle.ported_run.specs.declared.Last.TheVariants.{None, At}
 use Rattle.bentley_ottmann.specs.declared.Swept.{Swept}
 use Rattle.ported_run.specs.Last.{as_last}
 use Rattle.bentley_ottmann.specs.Swept.{refused_with}
@@ -76,17 +76,17 @@ module _ (C : Chart) (answer : ℕ → Told C) (visited : ℕ → List C.Point) 
     pub ends_exactly : (budget : ℕ) → ((answer budget).ended ≡ true) ↔ (length (points C) ≤ budget)
 
 -- ---- at or before the last point
-not_less : (o : Order) → is_less o ≡ false → ¬ (o ≡ Less)
+not_less : (o : Ordering) → is_less o ≡ false → ¬ (o ≡ Less)
 not_less o e z = clash (ap is_less z) e
 
-less_not : (o : Order) → ¬ (o ≡ Less) → is_less o ≡ false
+less_not : (o : Ordering) → ¬ (o ≡ Less) → is_less o ≡ false
 less_not Less h = absurd (h refl)
 less_not Equal h = refl
 less_not Greater h = refl
 
-reached_alike : (a b : LineSegment) (p q : Point) (l : Last) → LeastCommon a b p → LeastCommon a b q → Reached l p → Reached l q
+reached_alike : (a b : LineSegment) (p q : Point) (l : Option Point) → LeastCommon a b p → LeastCommon a b q → Reached l p → Reached l q
 reached_alike a b p q None h k r = r
-reached_alike a b p q (At l) h k r =
+reached_alike a b p q (Some l) h k r =
     λ e. r (orders_points.other_way p l ∙ ap turned (orders_points.alike p q l h.common.positive k.common.positive (least_alike a b p q h k)) ∙ sym (orders_points.other_way q l) ∙ e)
 
 -- the last of a list is what it ends with
@@ -96,7 +96,7 @@ ends_with [] = refl
 ends_with (p ∷ []) = ([], refl)
 ends_with (p ∷ q ∷ l) = longer (last_of (q ∷ l)) (ends_with (q ∷ l))
   where
-    longer : (o : Option Point) → EndsWith (q ∷ l) (as_last o) → EndsWith (p ∷ q ∷ l) (as_last o)
+    longer : (o : maybe.Option Point) → EndsWith (q ∷ l) (as_last o) → EndsWith (p ∷ q ∷ l) (as_last o)
     longer none e = absurd (omega (arith, ap length e))
     longer (some z) e = (p ∷ e.0, ap (λ (t : List Point). p ∷ t) e.1)
 
@@ -237,7 +237,7 @@ module _ (Allowed : Outcome) (Whole : List ℤ → ℕ → Type 0)
               t.1 (m.0, m.1, behind.1 (reached_alike _ _ _ _ (as_last (run list n budget).last) h.1.1 (first_least (order list) list n a q h.0) h.1.2)),
         )
       where
-        reached : (l : Option Point) (p : Point) → Behind (C list n) l p ↔ Reached (as_last l) p
+        reached : (l : maybe.Option Point) (p : Point) → Behind (C list n) l p ↔ Reached (as_last l) p
         reached none p = (λ h. h, λ h. h)
         reached (some l) p = (not_less (point_order l p), less_not (point_order l p))
 

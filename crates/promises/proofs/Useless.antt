@@ -25,8 +25,8 @@ use Rattle.charts.specs.Chart.{number_at, fault_at, pieces, verdict_of}
 use Rattle.charts.specs.Piece.{kind_of, coordinate_of, piece_at, is_upright, no_upright}
 use Rattle.charts.specs.Answer.{answer_of, room, listing_of}
 use Rattle.charts.specs.PairList.{pairs_in}
-use Rattle.charts.specs.declared.Verdict.{Verdict}
-use Rattle.charts.specs.declared.Verdict.TheVariants.{Accepted, Refused}
+use Rattle.charts.specs.Verdict.{Verdict}
+use Rattle.charts.specs.Verdict.{Accepted, Refused}
 use Rattle.charts.proofs.Accepted.{pieces_have_length}
 use Rattle.charts.proofs.Listing.{listing_refuses_exactly, listing_goes}
 use Rattle.sweep.specs.Lists.{Pair}

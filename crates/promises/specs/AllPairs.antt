@@ -3,7 +3,7 @@ use Rattle.std.specs.Prelude.{◌≡◌, ◌≢◌, ◌↔◌, List, ℕ, ◌*�
 use mathlib.Core.List.{Memᴰ as In}
 use Rattle.line_segment.specs.Demand.{Meet}
 use Rattle.charts.specs.declared.Answer.{Answer}
-use Rattle.charts.specs.declared.Verdict.TheVariants.{Refused}
+use Rattle.charts.specs.Verdict.{Refused}
 use Rattle.charts.specs.Answer.{refused_with}
 use Rattle.charts.specs.Demand.{ListingDue}
 use Rattle.charts.specs.PairList.{pairs_in}

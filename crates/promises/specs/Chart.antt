@@ -2,7 +2,7 @@
 use Rattle.std.specs.Prelude.{◌≡◌, ◌⊎◌, ◌↔◌, List, ℕ, ◌<◌, ℤ, length}
 use mathlib.Core.List.{Memᴰ as In}
 use Rattle.fractions.specs.Point.{Lowest, point_order}
-use Rattle.fractions.specs.declared.Order.TheVariants.{Less, Equal}
+use Rattle.std.specs.declared.cmp.Ordering.TheVariants.{Less, Equal}
 use Rattle.fractions.specs.declared.Point.{Point}
 use Rattle.line_segment.specs.declared.LineSegment.{LineSegment}
 use Rattle.line_segment.specs.Piece.{point_of}
@@ -10,7 +10,7 @@ use Rattle.line_segment.specs.Geometry.{Common, OneLine}
 use Rattle.line_segment.specs.Demand.{Meet}
 use Rattle.charts.specs.Demand.{ListingDue}
 use Rattle.charts.specs.Piece.{piece_at}
-use Rattle.charts.specs.declared.Verdict.TheVariants.{Accepted}
+use Rattle.charts.specs.Verdict.{Accepted}
 use Rattle.sweep.specs.Lists.{Pair, Pairwise}
 use Rattle.sweep_geometry.specs.Demand.{LeastCommon}
 

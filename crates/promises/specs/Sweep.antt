@@ -1,19 +1,17 @@
 -- What is promised of a sweep: of what its call returns, and of the pairs that its caller reads in the lent bytes afterwards.
 -- It stands here once, of any sweep: `Allowed` are the outcomes that the call's contract allows, `Whole` the charts on which
 -- nothing may be missing. Of the ported sweep these are the charts with no upright piece.
-use Rattle.std.specs.Prelude.{◌≡◌, ◌⊎◌, ◌≢◌, ◌↔◌, true, List, [], ◌∷◌, ◌++◌, ℕ, ◌+◌, ◌*◌, ◌≤◌, min, ℤ, length, take}
+use Rattle.std.specs.Prelude.{◌≡◌, ◌⊎◌, ◌≢◌, ◌↔◌, true, List, [], ◌∷◌, ◌++◌, ℕ, ◌+◌, ◌*◌, ◌≤◌, min, ℤ, length, take, Option, None, Some}
 use mathlib.Core.List.{Memᴰ as In}
 use Rattle.fractions.specs.Point.{point_order}
-use Rattle.fractions.specs.declared.Order.TheVariants.{Less}
+use Rattle.std.specs.declared.cmp.Ordering.TheVariants.{Less}
 use Rattle.fractions.specs.declared.Point.{Point}
 use Rattle.charts.specs.declared.Answer.{Answer}
-use Rattle.charts.specs.declared.Verdict.TheVariants.{Refused}
+use Rattle.charts.specs.Verdict.{Refused}
 use Rattle.charts.specs.Demand.{ListingDue}
 use Rattle.charts.specs.PairList.{pairs_in}
 use Rattle.naive.specs.Pairs.{bytes, over}
 use Rattle.sweep.specs.Lists.{Pair, Pairwise}
-use Rattle.ported_run.specs.declared.Last.{Last}
-use Rattle.ported_run.specs.declared.Last.TheVariants.{None, At}
 use Rattle.bentley_ottmann.specs.declared.Swept.{Swept}
 use Rattle.bentley_ottmann.specs.Swept.{sweep_of, lent_after, refused_with}
 use Rattle.promises.specs.Refusals.{RefusalPromises}
@@ -34,14 +32,14 @@ abbrev pub listed_in : Swept → List ℕ → List Pair
 listed_in r after = pairs_in (take (2 * r.pairs) after)
 
 -- "at or before the last point visited, none at zero steps"
-abbrev pub Reached : Last → Point → Type 0
+abbrev pub Reached : Option Point → Point → Type 0
 Reached None p = ⊥
-Reached (At l) p = ¬ (point_order l p ≡ Less)
+Reached (Some l) p = ¬ (point_order l p ≡ Less)
 
 -- "the last point, or none after zero steps", of the points visited
-abbrev pub EndsWith : List Point → Last → Type 0
+abbrev pub EndsWith : List Point → Option Point → Type 0
 EndsWith points None = points ≡ []
-EndsWith points (At p) = (front : List Point) × (points ≡ front ++ (p ∷ []))
+EndsWith points (Some p) = (front : List Point) × (points ≡ front ++ (p ∷ []))
 
 -- no step is invented: each visits a point beyond the one before
 pub record Forward (r : Swept) (points : List Point) : Type 0 where

@@ -1,4 +1,5 @@
 -- What the half-line counts is what the half-open rule counts: the proof of `EvenOdd`. Assumes nothing.
+use Rattle.std.specs.Prelude.{Option, None}
 use mathlib.Core.Path.{◌≡◌, refl, sym, ap, ap₂, ◌∙◌}
 use mathlib.Core.Bool.{Bool, cond, not, ◌&&◌, ◌||◌}
 use mathlib.Core.List.{[], ◌∷◌}
@@ -14,8 +15,6 @@ use Rattle.orientation.specs.declared.Orientation.TheVariants.{CounterClockWise,
 use Rattle.orientation.specs.Turn.{det, turn_of, reversed, is_left, is_straight}
 use Rattle.line_segment.specs.Segment.{opposed}
 use Rattle.half_line.specs.declared.Corner.{Corner}
-use Rattle.half_line.specs.declared.IHalfLineLineSegmentSoS.{IHalfLineLineSegmentSoS}
-use Rattle.half_line.specs.declared.IHalfLineLineSegmentSoS.TheVariants.{Nothing}
 use Rattle.half_line.specs.HalfLine.{corner_of, leans_of, passes_of, point_turn, half_line_of}
 use Rattle.charts.proofs.Rows.{is_true, is_false, says_lt}
 use Rattle.outline.specs.Counting.{count}
@@ -59,9 +58,9 @@ unfolding point_turn det
 turned a b p = ap turn_of (turned₀ a.x a.y b.x b.y p.x p.y) ∙ turn_neg _
 
 -- ---- the rules by the three turns: of the min, of the max, and of the peak to the way from min to max
-abbrev pub rust : Orientation → Orientation → Orientation → Orientation → IHalfLineLineSegmentSoS
+abbrev pub rust : Orientation → Orientation → Orientation → Orientation → Option Orientation
 rust o q t u =
-    cond (is_straight o && is_straight q) Nothing
+    cond (is_straight o && is_straight q) None
     (cond (is_straight o) (leans_of q t)
     (cond (is_straight q) (leans_of o u)
     (passes_of o q t)))

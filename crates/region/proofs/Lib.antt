@@ -1,4 +1,4 @@
--- The point to the right of a peak: `Right`. What the loops over the sides know: `Sides`.
+-- The point to the right of a peak: `Right`. What is known of the sides: `Sides`.
 pub mod Right
 pub mod Sides
 pub mod EvenOdd

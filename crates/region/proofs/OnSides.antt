@@ -14,7 +14,7 @@ use Rattle.line_segment.specs.Segment.{contains_of}
 use Rattle.line_segment.proofs.Booleans.{no, clash}
 use Rattle.line_segment.proofs.Promises.{contains_exactly}
 use Rattle.half_line.specs.Call.{corner_at}
-use Rattle.charts.specs.declared.Verdict.TheVariants.{Accepted}
+use Rattle.charts.specs.Verdict.{Accepted}
 use Rattle.outline.specs.Counting.{first, count}
 use Rattle.outline.specs.Outline.{side_of, verdict_of}
 use Rattle.outline.proofs.First.{Finds, at, nowhere, finds}

@@ -11,8 +11,8 @@ use lib.ListN.{length, get_or, length-append, get_or-append}
 use lib.Seq.{get_or-append-add}
 use Rattle.fractions.specs.Order.{turned}
 use Rattle.fractions.specs.Point.{whole_of}
-use Rattle.fractions.specs.declared.Order.{Order}
-use Rattle.fractions.specs.declared.Order.TheVariants.{Less, Equal, Greater}
+use Rattle.std.specs.declared.cmp.Ordering.{Ordering}
+use Rattle.std.specs.declared.cmp.Ordering.TheVariants.{Less, Equal, Greater}
 use Rattle.fractions.specs.declared.Point.{Point}
 use Rattle.fractions.proofs.Promises.{orders_points, lowest_terms}
 use Rattle.line_segment.specs.declared.EndPoint.{EndPoint}
@@ -34,7 +34,7 @@ module _ (x1 y1 x2 y2 : ℤ) where
   abbrev b : EndPoint
   b = record { x = x2; y = y2; included = true }
 
-  by_order : (o : Order) → end_order a b ≡ o → join_by o a b ≡ join_by (turned o) b a
+  by_order : (o : Ordering) → end_order a b ≡ o → join_by o a b ≡ join_by (turned o) b a
   unfolding join_by end_order point_of
   by_order Less e = refl
   by_order Greater e = refl
@@ -45,7 +45,7 @@ module _ (x1 y1 x2 y2 : ℤ) where
 
   either_end : piece_of 3 x1 y1 x2 y2 ≡ piece_of 3 x2 y2 x1 y1
   unfolding piece_of join_of first_included second_included end_order
-  either_end = by_order (end_order a b) refl ∙ ap (λ (o : Order). join_by o b a) (sym (orders_points.other_way (point_of a) (point_of b)))
+  either_end = by_order (end_order a b) refl ∙ ap (λ (o : Ordering). join_by o b a) (sym (orders_points.other_way (point_of a) (point_of b)))
 
 -- ---- the corners
 round_length : (n : ℕ) (l : List ℤ) → length l ≡ 2 * n → length (round l) ≡ 2 * n

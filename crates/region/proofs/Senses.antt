@@ -1,6 +1,7 @@
 -- The two senses exchanged, a region answers the same: the proof of `SensesExchanged`. The two counts of a side differ exactly
 -- where one of its corners, and not the other, stands to the right of the peak at its height; going round, every such corner
 -- is met twice. Assumes nothing.
+use Rattle.std.specs.Prelude.{Option, None, Some}
 use mathlib.Core.Path.{◌≡◌, refl, sym, ap, ap₂, ◌∙◌, subst}
 use mathlib.Core.Bool.{Bool, true, false, cond, not, ◌&&◌}
 use mathlib.Core.List.{List, [], ◌∷◌}
@@ -20,8 +21,8 @@ use Rattle.orientation.proofs.Signs.{turn_above, turn_below}
 use Rattle.fractions.specs.Order.{order, and_then}
 use Rattle.fractions.specs.Fraction.{ratio_order}
 use Rattle.fractions.specs.Point.{point_order, whole_of}
-use Rattle.fractions.specs.declared.Order.{Order}
-use Rattle.fractions.specs.declared.Order.TheVariants.{Less, Equal, Greater}
+use Rattle.std.specs.declared.cmp.Ordering.{Ordering}
+use Rattle.std.specs.declared.cmp.Ordering.TheVariants.{Less, Equal, Greater}
 use Rattle.fractions.proofs.Orders.{order_less, order_equal, order_greater}
 use Rattle.line_segment.specs.declared.LineSegment.{LineSegment}
 use Rattle.line_segment.specs.Geometry.{run, rise, side, admits, LiesOn}
@@ -29,12 +30,10 @@ use Rattle.line_segment.specs.Piece.{point_of, end_order, first_included, second
 use Rattle.line_segment.specs.Segment.{opposed}
 use Rattle.line_segment.proofs.Booleans.{no, clash}
 use Rattle.half_line.specs.declared.Corner.{Corner}
-use Rattle.half_line.specs.declared.IHalfLineLineSegmentSoS.{IHalfLineLineSegmentSoS}
-use Rattle.half_line.specs.declared.IHalfLineLineSegmentSoS.TheVariants.{Nothing, Crossing}
 use Rattle.half_line.specs.HalfLine.{corner_of, leans_of, passes_of, point_turn, half_line_of}
 use Rattle.half_line.specs.Call.{corner_at}
 use Rattle.charts.specs.Piece.{coordinate_of}
-use Rattle.charts.specs.declared.Verdict.TheVariants.{Accepted}
+use Rattle.charts.specs.Verdict.{Accepted}
 use Rattle.outline.specs.Counting.{first, count}
 use Rattle.outline.specs.Outline.{number_at, next_of, side_of, verdict_of}
 use Rattle.outline.proofs.Accepted.{sides_have_length, peak_as_given}
@@ -232,7 +231,7 @@ module _ (p : Corner) where
           go (same d) (same e) = here d ∙ sym (here e)
 
     -- the two counts of a side
-    abbrev sided : IHalfLineLineSegmentSoS → Bool
+    abbrev sided : Option Orientation → Bool
     sided m = differ (counted m) (counted_other m)
 
     leaning : (o : Orientation) (t : Orientation) → is_straight o ≡ false → sided (leans_of o t) ≡ same_turn o t
@@ -247,7 +246,7 @@ module _ (p : Corner) where
     passing : (o q t : Orientation) → sided (passes_of o q t) ≡ false
     passing o q t = go (opposed o q && opposed o t)
       where
-        go : (b : Bool) → sided (cond b (Crossing CoLinear) Nothing) ≡ false
+        go : (b : Bool) → sided (cond b (Some CoLinear) None) ≡ false
         go true = refl
         go false = refl
 
@@ -282,7 +281,7 @@ module _ (p : Corner) (x1 y1 x2 y2 : ℤ) where
   unfolding piece_of join_of join_by
   corners = go (end_order _ _)
     where
-      go : (o : Order) → differ (right p (corner_of (join_by o (record { x = x1; y = y1; included = first_included 3 }) (record { x = x2; y = y2; included = second_included 3 })).min)) (right p (corner_of (join_by o (record { x = x1; y = y1; included = first_included 3 }) (record { x = x2; y = y2; included = second_included 3 })).max)) ≡ differ (right p (record { x = x1; y = y1 })) (right p (record { x = x2; y = y2 }))
+      go : (o : Ordering) → differ (right p (corner_of (join_by o (record { x = x1; y = y1; included = first_included 3 }) (record { x = x2; y = y2; included = second_included 3 })).min)) (right p (corner_of (join_by o (record { x = x1; y = y1; included = first_included 3 }) (record { x = x2; y = y2; included = second_included 3 })).max)) ≡ differ (right p (record { x = x1; y = y1 })) (right p (record { x = x2; y = y2 }))
       go Less = refl
       go Equal = differ_turned (right p (record { x = x2; y = y2 })) (right p (record { x = x1; y = y1 }))
       go Greater = differ_turned (right p (record { x = x2; y = y2 })) (right p (record { x = x1; y = y1 }))
@@ -291,7 +290,7 @@ module _ (p : Corner) (x1 y1 x2 y2 : ℤ) where
   unfolding piece_of join_of join_by first_included second_included
   both_in = go (end_order _ _)
     where
-      go : (o : Order) → ((join_by o (record { x = x1; y = y1; included = true }) (record { x = x2; y = y2; included = true })).min.included ≡ true) × ((join_by o (record { x = x1; y = y1; included = true }) (record { x = x2; y = y2; included = true })).max.included ≡ true)
+      go : (o : Ordering) → ((join_by o (record { x = x1; y = y1; included = true }) (record { x = x2; y = y2; included = true })).min.included ≡ true) × ((join_by o (record { x = x1; y = y1; included = true }) (record { x = x2; y = y2; included = true })).max.included ≡ true)
       go Less = (refl, refl)
       go Equal = (refl, refl)
       go Greater = (refl, refl)

@@ -1,20 +1,19 @@
 -- What is promised of a region's answer. Each statement is a type, inhabited in proofs/.
-use Rattle.std.specs.Prelude.{◌≡◌, Bool, false, cond, not, ◌&&◌, ◌||◌, ◌↔◌, List, [], ◌∷◌, ◌++◌, ℕ, suc, ◌*◌, ◌<◌, ltb, ℤ, length}
+use Rattle.std.specs.Prelude.{◌≡◌, Bool, false, cond, not, ◌&&◌, ◌||◌, ◌↔◌, List, [], ◌∷◌, ◌++◌, ℕ, suc, ◌*◌, ◌<◌, ltb, ℤ, length, Option, None, Some}
 use Rattle.std.specs.Int.Signed.{lt_z}
 use Rattle.orientation.specs.Turn.{is_left, is_right, is_straight}
 use Rattle.fractions.specs.Point.{whole_of}
 use Rattle.line_segment.specs.declared.LineSegment.{LineSegment}
 use Rattle.line_segment.specs.Geometry.{LiesOn}
 use Rattle.half_line.specs.declared.Corner.{Corner}
-use Rattle.half_line.specs.declared.IHalfLineLineSegmentSoS.{IHalfLineLineSegmentSoS}
-use Rattle.half_line.specs.declared.IHalfLineLineSegmentSoS.TheVariants.{Nothing, Crossing}
 use Rattle.half_line.specs.HalfLine.{corner_of, point_turn, half_line_of}
 use Rattle.half_line.specs.Call.{corner_at}
-use Rattle.charts.specs.declared.Verdict.TheVariants.{Accepted}
+use Rattle.charts.specs.Verdict.{Accepted}
 use Rattle.outline.specs.Counting.{first, count}
 use Rattle.outline.specs.Outline.{side_of, verdict_of}
 use Rattle.region.specs.declared.Region.{Region}
 use Rattle.region.specs.Region.{counted, right_of, on_side, parity, region_of, region_answer_of}
+use Rattle.orientation.specs.declared.Orientation.{Orientation}
 
 -- ---- on a side
 -- some side of the n has the point x, y
@@ -71,9 +70,9 @@ TurnsRound = (outline : List ℤ) (n : ℕ) (p : Corner) → length outline ≡ 
 
 -- ---- the two senses
 -- an answer as it counts where `ClockWise` is asked for instead of `CounterClockWise`
-abbrev pub counted_other : IHalfLineLineSegmentSoS → Bool
-counted_other Nothing = false
-counted_other (Crossing o) = is_straight o || is_right o
+abbrev pub counted_other : Option Orientation → Bool
+counted_other None = false
+counted_other (Some o) = is_straight o || is_right o
 
 unfoldable pub other_sense : List ℤ → ℕ → Corner → Region
 other_sense outline n p =

@@ -1,27 +1,26 @@
 -- Where a peak lies to a region, from the sides, the segment's own points and the half-line alone.
-use Rattle.std.specs.Prelude.{Bool, false, cond, ◌||◌, List, ℕ, ◌%◌, eqb, ltb, ℤ, pos, ◌+ℤ◌}
+use Rattle.std.specs.Prelude.{Bool, false, cond, ◌||◌, List, ℕ, ◌%◌, eqb, ltb, ℤ, pos, ◌+ℤ◌, Option, None, Some}
 use Rattle.orientation.specs.Turn.{is_left, is_straight}
 use Rattle.fractions.specs.Point.{whole_of}
 use Rattle.line_segment.specs.Segment.{contains_of}
 use Rattle.half_line.specs.declared.Corner.{Corner}
-use Rattle.half_line.specs.declared.IHalfLineLineSegmentSoS.{IHalfLineLineSegmentSoS}
-use Rattle.half_line.specs.declared.IHalfLineLineSegmentSoS.TheVariants.{Nothing, Crossing}
 use Rattle.half_line.specs.HalfLine.{half_line_of}
 use Rattle.half_line.specs.Call.{corner_at}
-use Rattle.charts.specs.declared.Verdict.{Verdict}
+use Rattle.charts.specs.Verdict.{Verdict}
 use Rattle.outline.specs.Counting.{first, count}
 use Rattle.outline.specs.Outline.{side_of, verdict_of}
 use Rattle.region.specs.declared.Region.{Region}
 use Rattle.region.specs.declared.RegionAnswer.{RegionAnswer}
+use Rattle.orientation.specs.declared.Orientation.{Orientation}
 
 -- "the half-line towards (x+1, y)"
 abbrev pub right_of : Corner → Corner
 right_of p = record { x = p.x +ℤ pos 1; y = p.y }
 
 -- "with `Crossing(CoLinear)` or `Crossing(CounterClockWise)`"
-abbrev pub counted : IHalfLineLineSegmentSoS → Bool
-counted Nothing = false
-counted (Crossing o) = is_straight o || is_left o
+abbrev pub counted : Option Orientation → Bool
+counted None = false
+counted (Some o) = is_straight o || is_left o
 
 -- of an outline's n sides, side i: "some side, both ends included, contains it"
 unfoldable pub on_side : List ℤ → ℕ → Corner → ℕ → Bool

@@ -66,8 +66,9 @@ fn main() {
     let mut buffer = io::buffer();
     let space: &mut [u8] = &mut buffer;
     // a proved loop has to end, and nothing says that the input does
-    let mut turns = u64::MAX;
-    while turns > 0 && replay_next(space) {
-        turns -= 1;
+    for _ in 0..u64::MAX {
+        if !replay_next(space) {
+            return;
+        }
     }
 }

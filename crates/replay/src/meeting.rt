@@ -7,11 +7,7 @@ fn write_end(e: EndPoint) {
     let p = lowest_terms::whole(e.x, e.y);
     text::signed(b" ", p.x);
     text::signed(b" ", p.y);
-    if e.included {
-        text::words(b" 1");
-    } else {
-        text::words(b" 0");
-    }
+    text::words(if e.included { b" 1" } else { b" 0" });
 }
 
 fn write_crossing(list: &[i32]) {

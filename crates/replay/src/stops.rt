@@ -3,19 +3,17 @@
 use crate::text;
 use bentley_ottmann::Swept;
 use charts::MOST;
-use ported_run::Last;
 
 fn write_stop(swept: Swept) {
     text::number(b"", swept.steps as u64);
     text::number(b" listed ", swept.pairs as u64);
     text::number(b" examined ", swept.examined);
     text::yes_or_no(b" ended ", swept.ended);
-    let last = swept.last;
-    match last {
-        Last::None => {
+    match swept.last {
+        None => {
             text::words(b" none");
         }
-        Last::At(p) => {
+        Some(p) => {
             text::point(b" at ", p);
         }
     }
@@ -37,9 +35,10 @@ fn stop_at(list: &[i32], full: bool, budget: u32, bytes: &mut [u8]) -> bool {
 }
 
 fn write_stops(list: &[i32], full: bool, bytes: &mut [u8]) {
-    let mut budget = 0;
-    while budget < u32::MAX && !stop_at(list, full, budget, bytes) {
-        budget += 1;
+    for budget in 0..u32::MAX {
+        if stop_at(list, full, budget, bytes) {
+            return;
+        }
     }
 }
 

@@ -30,11 +30,8 @@ pub fn point(before: &[u8], p: Point) {
 
 pub fn yes_or_no(before: &[u8], yes: bool) {
     words(before);
-    if yes {
-        words(b"yes");
-    } else {
-        words(b"no");
-    }
+    let word: &[u8] = if yes { b"yes" } else { b"no" };
+    words(word);
 }
 
 // The 16 hexadecimal digits of a binary64.
@@ -59,10 +56,9 @@ fn coordinate(v: i32) {
 
 // The count of a chart's pieces and its numbers.
 pub fn chart(list: &[i32]) {
-    let n = list.len();
-    number(b"read ", (n / 5) as u64);
-    for i in 0..n {
-        coordinate(list[i]);
+    number(b"read ", (list.len() / 5) as u64);
+    for v in list {
+        coordinate(*v);
     }
     words(b"\n");
 }
@@ -73,10 +69,9 @@ fn piece(i: u8) {
 
 // So many pairs, two bytes a pair.
 pub fn pairs(bytes: &[u8], count: usize) {
-    let n = bytes.len();
-    for i in 0..n {
-        if i / 2 < count {
-            piece(bytes[i]);
+    for pair in bytes.chunks(2).take(count) {
+        for i in pair {
+            piece(*i);
         }
     }
     words(b"\n");

@@ -12,7 +12,7 @@ use lib.ListN.{length}
 use Rattle.charts.specs.Answer.{listing_of}
 use Rattle.charts.specs.Chart.{verdict_of}
 use Rattle.charts.specs.Piece.{piece_at, no_upright}
-use Rattle.charts.specs.declared.Verdict.TheVariants.{Accepted}
+use Rattle.charts.specs.Verdict.{Accepted}
 use Rattle.charts.proofs.Listing.{listing_goes}
 use Rattle.naive.specs.Pairs.{Pair, bytes, over}
 use Rattle.sweep.specs.Chart.{meets, kind}

@@ -19,7 +19,7 @@ use Rattle.line_segment.specs.Demand.{says_yes}
 use Rattle.line_segment.proofs.Promises.{says_yes_exactly}
 use Rattle.charts.specs.Chart.{verdict_of}
 use Rattle.charts.specs.Piece.{piece_at}
-use Rattle.charts.specs.declared.Verdict.TheVariants.{Accepted}
+use Rattle.charts.specs.Verdict.{Accepted}
 use Rattle.charts.proofs.Accepted.{pieces_have_length}
 use Rattle.naive.specs.Pairs.{Pair}
 use Rattle.sweep.specs.Chart.{Kind, nothing, crosses, overlaps, Chart, meets, kind}

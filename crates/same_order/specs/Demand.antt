@@ -2,7 +2,7 @@
 use Rattle.std.specs.Prelude.{◌≡◌, true, List, ℕ, ◌+◌, ◌*◌, ◌≤◌, ℤ, length}
 use Rattle.charts.specs.Answer.{listing_of, refused_with}
 use Rattle.charts.specs.Piece.{piece_at, no_upright}
-use Rattle.charts.specs.declared.Verdict.TheVariants.{Accepted, Refused}
+use Rattle.charts.specs.Verdict.{Accepted, Refused}
 use Rattle.naive.specs.Pairs.{bytes, over}
 use Rattle.bentley_ottmann.specs.Swept.{sweep_of, lent_after}
 use Rattle.bentley_ottmann.specs.Swept.{refused_with as sweep_refused}

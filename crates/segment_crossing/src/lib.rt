@@ -9,23 +9,20 @@ ghost use Rattle.line_segment.specs.Segment.{moment as moment_of, over as over_o
 
 use fractions::Point;
 use line_segment::LineSegment;
+use orientation::span;
 
 // From end to end along x.
 pub fn run(s: LineSegment) -> i64
     ensures { (result ≡ run_of s) × Small (2 ^ 16) result }
 {
-    let from = s.min;
-    let to = s.max;
-    to.x as i64 - from.x as i64
+    span(s.min.x, s.max.x)
 }
 
 // From end to end along y.
 pub fn rise(s: LineSegment) -> i64
     ensures { (result ≡ rise_of s) × Small (2 ^ 16) result }
 {
-    let from = s.min;
-    let to = s.max;
-    to.y as i64 - from.y as i64
+    span(s.min.y, s.max.y)
 }
 
 // The line of a piece is rise * x - run * y = moment.

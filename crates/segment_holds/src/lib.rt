@@ -10,11 +10,12 @@ ghost use Rattle.line_segment.specs.Piece.{point_of};
 ghost use Rattle.line_segment.specs.Geometry.{side};
 ghost use Rattle.line_segment.specs.Segment.{inner_between, in_bounds, contains_of};
 
-use fractions::{Fraction, Order, Point};
+use fractions::{Fraction, Point};
 use integers::size;
 use line_segment::{EndPoint, LineSegment};
 use segment_crossing::{rise, run};
-use segment_test::{allows, join, pair_order};
+use segment_test::{allows, join};
+use std::cmp::Ordering;
 
 // 2^33 and 2^48: no crossing of two pieces of a chart reaches them.
 const D_LIMIT: u64 = 8589934592;
@@ -28,15 +29,7 @@ const PLAIN_LIMIT: u64 = 70368744177664;
 fn in_bounds(p: Point) -> bool
     ensures { result ≡ in_bounds p }
 {
-    if p.d < D_LIMIT {
-        if size(p.x) < SIZE_LIMIT {
-            size(p.y) < SIZE_LIMIT
-        } else {
-            false
-        }
-    } else {
-        false
-    }
+    p.d < D_LIMIT && size(p.x) < SIZE_LIMIT && size(p.y) < SIZE_LIMIT
 }
 
 // A coordinate of an end, over D.
@@ -48,25 +41,11 @@ fn scaled(c: i16, d: u64) -> i64
 }
 
 // How an end comes to a point.
-fn end_to_point(e: EndPoint, p: Point) -> Order
+fn end_to_point(e: EndPoint, p: Point) -> Ordering
     requires { Bounded p }
     ensures { result ≡ point_order (point_of e) p }
 {
-    let d = p.d;
-    let x = p.x;
-    let y = p.y;
-    pair_order(scaled(e.x, d), scaled(e.y, d), x, y)
-}
-
-// How a point comes to an end.
-fn point_to_end(p: Point, e: EndPoint) -> Order
-    requires { Bounded p }
-    ensures { result ≡ point_order p (point_of e) }
-{
-    let d = p.d;
-    let x = p.x;
-    let y = p.y;
-    pair_order(x, y, scaled(e.x, d), scaled(e.y, d))
+    (scaled(e.x, p.d), scaled(e.y, p.d)).cmp(&(p.x, p.y))
 }
 
 // Whether a point lies between two ends.
@@ -77,26 +56,18 @@ fn between(p: Point, a: EndPoint, b: EndPoint) -> bool
     let s = join(a, b);
     let left = s.min;
     let right = s.max;
-    allows(end_to_point(left, p), left.included) && allows(point_to_end(p, right), right.included)
+    allows(end_to_point(left, p), left.included)
+        && allows(end_to_point(right, p).reverse(), right.included)
 }
 
 // A fraction whose upper number, times the size of q, is p * q.
 fn share(p: i64, q: i64, under: u64) -> Fraction
     ensures { (above result *ℤ pos (nat_abs q) ≡ p *ℤ q) × (result.under ≡ under) }
 {
-    let over = size(p);
-    if p < 0 {
-        Fraction {
-            negative: q > 0,
-            over,
-            under,
-        }
-    } else {
-        Fraction {
-            negative: q < 0,
-            over,
-            under,
-        }
+    Fraction {
+        negative: (p < 0) != (q < 0),
+        over: size(p),
+        under,
     }
 }
 
@@ -104,11 +75,7 @@ fn share(p: i64, q: i64, under: u64) -> Fraction
 fn same_product(p: i64, q: i64, u: i64, v: i64) -> bool
     ensures { result ≡ is_straight (turn_of (p *ℤ q -ℤ u *ℤ v)) }
 {
-    match comparison::compare(share(p, q, size(v)), share(u, v, size(q))) {
-        Order::Less => false,
-        Order::Equal => true,
-        Order::Greater => false,
-    }
+    comparison::compare(share(p, q, size(v)), share(u, v, size(q))).is_eq()
 }
 
 // The same where the products have room.
@@ -116,15 +83,7 @@ fn same_plain(p: i64, q: i64, u: i64, v: i64) -> bool
     requires { (Small (2 ^ 46) p × Small (2 ^ 16) q) × (Small (2 ^ 46) u × Small (2 ^ 16) v) }
     ensures { result ≡ is_straight (turn_of (p *ℤ q -ℤ u *ℤ v)) }
 {
-    let a = p * q;
-    let b = u * v;
-    if a < b {
-        return false;
-    }
-    if b < a {
-        return false;
-    }
-    true
+    p * q == u * v
 }
 
 // Whether a point is on the line of a piece. As fractions, the way from the min stands over run and rise and not the
@@ -141,10 +100,8 @@ fn on_line(s: LineSegment, p: Point) -> bool
     let v = y - scaled(from.y, d);
     let along = run(s);
     let up = rise(s);
-    if size(u) < PLAIN_LIMIT {
-        if size(v) < PLAIN_LIMIT {
-            return same_plain(v, along, u, up);
-        }
+    if size(u) < PLAIN_LIMIT && size(v) < PLAIN_LIMIT {
+        return same_plain(v, along, u, up);
     }
     same_product(v, along, u, up)
 }
@@ -153,13 +110,5 @@ fn on_line(s: LineSegment, p: Point) -> bool
 pub fn contains(s: LineSegment, p: Point) -> bool
     ensures { result ≡ contains_of s p }
 {
-    if in_bounds(p) {
-        if on_line(s, p) {
-            between(p, s.min, s.max)
-        } else {
-            false
-        }
-    } else {
-        false
-    }
+    in_bounds(p) && on_line(s, p) && between(p, s.min, s.max)
 }

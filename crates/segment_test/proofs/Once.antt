@@ -1,7 +1,6 @@
 -- "For each input .. it allows one result": of each public function's contract, as the check reads it.
 use mathlib.Core.Path.{sym, ◌∙◌}
 use Rattle.integers.specs.Outcome.{OneResult}
-use Rattle.segment_test.proofs.pair_order.Reads as pair_order
 use Rattle.segment_test.proofs.join.Reads as join
 use Rattle.segment_test.proofs.piece.Reads as piece
 use Rattle.segment_test.proofs.leftmost.Reads as leftmost
@@ -9,9 +8,6 @@ use Rattle.segment_test.proofs.rightmost.Reads as rightmost
 use Rattle.segment_test.proofs.allows.Reads as allows
 use Rattle.segment_test.proofs.inner_between.Reads as inner_between
 use Rattle.segment_test.proofs.intersect.Reads as intersect
-
-pub pair_order_once : OneResult pair_order.Post
-pair_order_once κs a r r' s s' h k = h ∙ sym k
 
 pub join_once : OneResult join.Post
 join_once κs a r r' s s' h k = h ∙ sym k

@@ -3,38 +3,20 @@
 #![tactic(auto)]
 
 ghost use Rattle.std.specs.Prelude.{◌≡◌};
-ghost use Rattle.fractions.specs.Order.{order, and_then};
 ghost use Rattle.line_segment.specs.Piece.{point_of, end_order, join_of, piece_of};
 ghost use Rattle.line_segment.specs.Geometry.{admits};
 ghost use Rattle.line_segment.specs.Segment.{exclusive_of, leftmost_of, rightmost_of, inner_between};
 ghost use Rattle.line_segment.specs.Segment.{stretch_of, touch_of, turn_to, opposed, astride_of, intersect_of};
 
-use fractions::Order;
 use line_segment::{EndPoint, LineSegment, Meeting};
 use orientation::Orientation;
-
-// Which of two pairs of numbers comes first.
-pub fn pair_order(ax: i64, ay: i64, bx: i64, by: i64) -> Order
-    ensures { result ≡ and_then (order ax bx) (order ay «by») }
-{
-    if ax < bx {
-        Order::Less
-    } else if bx < ax {
-        Order::Greater
-    } else if ay < by {
-        Order::Less
-    } else if by < ay {
-        Order::Greater
-    } else {
-        Order::Equal
-    }
-}
+use std::cmp::Ordering;
 
 // Which of two ends comes first, by x, then y.
-fn end_order(a: EndPoint, b: EndPoint) -> Order
+fn end_order(a: EndPoint, b: EndPoint) -> Ordering
     ensures { result ≡ end_order a b }
 {
-    pair_order(a.x as i64, a.y as i64, b.x as i64, b.y as i64)
+    (a.x, a.y).cmp(&(b.x, b.y))
 }
 
 // The piece between two ends, each with its mark.
@@ -42,9 +24,8 @@ pub fn join(a: EndPoint, b: EndPoint) -> LineSegment
     ensures { result ≡ join_of a b }
 {
     match end_order(a, b) {
-        Order::Less => LineSegment { min: a, max: b },
-        Order::Equal => LineSegment { min: b, max: a },
-        Order::Greater => LineSegment { min: b, max: a },
+        Ordering::Less => LineSegment { min: a, max: b },
+        Ordering::Equal | Ordering::Greater => LineSegment { min: b, max: a },
     }
 }
 
@@ -77,9 +58,9 @@ pub fn leftmost(a: EndPoint, b: EndPoint) -> EndPoint
     ensures { result ≡ leftmost_of a b }
 {
     match end_order(a, b) {
-        Order::Less => a,
-        Order::Equal => exclusive(a, b),
-        Order::Greater => b,
+        Ordering::Less => a,
+        Ordering::Equal => exclusive(a, b),
+        Ordering::Greater => b,
     }
 }
 
@@ -88,21 +69,17 @@ pub fn rightmost(a: EndPoint, b: EndPoint) -> EndPoint
     ensures { result ≡ rightmost_of a b }
 {
     match end_order(a, b) {
-        Order::Less => b,
-        Order::Equal => exclusive(a, b),
-        Order::Greater => a,
+        Ordering::Less => b,
+        Ordering::Equal => exclusive(a, b),
+        Ordering::Greater => a,
     }
 }
 
 // Whether an end lets a point stand in this order to it: at the end itself, only where it is included.
-pub fn allows(o: Order, included: bool) -> bool
+pub fn allows(o: Ordering, included: bool) -> bool
     ensures { result ≡ admits o included }
 {
-    match o {
-        Order::Less => true,
-        Order::Equal => included,
-        Order::Greater => false,
-    }
+    if included { o.is_le() } else { o.is_lt() }
 }
 
 // Whether the point of p lies between two ends; its own mark does not count.
@@ -125,16 +102,10 @@ fn stretch(a: LineSegment, b: LineSegment) -> Meeting
         min: left,
         max: right,
     };
-    match end_order(left, right) {
-        Order::Less => Meeting::Overlap(s),
-        Order::Equal => {
-            if right.included && left.included {
-                Meeting::Overlap(s)
-            } else {
-                Meeting::Nothing
-            }
-        }
-        Order::Greater => Meeting::Nothing,
+    if allows(end_order(left, right), right.included && left.included) {
+        Meeting::Overlap(s)
+    } else {
+        Meeting::Nothing
     }
 }
 
@@ -162,7 +133,7 @@ fn turn_to(s: LineSegment, e: EndPoint) -> Orientation
 fn opposite(o: Orientation, p: Orientation) -> bool
     ensures { result ≡ opposed o p }
 {
-    orientation::same(o, orientation::reverse(p))
+    o == p.reverse()
 }
 
 // No end of b on the line of a; `astride` says whether its ends lie on opposite sides of it.
@@ -171,9 +142,9 @@ fn cross(astride: bool, a: LineSegment, b: LineSegment) -> Meeting
 {
     let from = turn_to(b, a.min);
     let to = turn_to(b, a.max);
-    if orientation::is_colinear(from) {
+    if from.is_colinear() {
         touch(a.min, b)
-    } else if orientation::is_colinear(to) {
+    } else if to.is_colinear() {
         touch(a.max, b)
     } else if astride && opposite(from, to) {
         Meeting::Crossing
@@ -188,13 +159,13 @@ pub fn intersect(a: LineSegment, b: LineSegment) -> Meeting
 {
     let from = turn_to(a, b.min);
     let to = turn_to(a, b.max);
-    if orientation::is_colinear(from) {
-        if orientation::is_colinear(to) {
+    if from.is_colinear() {
+        if to.is_colinear() {
             stretch(a, b)
         } else {
             touch(b.min, a)
         }
-    } else if orientation::is_colinear(to) {
+    } else if to.is_colinear() {
         touch(b.max, a)
     } else {
         cross(opposite(from, to), a, b)

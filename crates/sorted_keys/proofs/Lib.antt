@@ -1,7 +1,7 @@
 -- Which file to open for which fact. From another crate: `use Rattle.sorted_keys.proofs.FILE.{..}`.
---   a number put among numbers in order          Inserted  from-left, place-rising, insert-rising, all-rising, insert-length
---   two halves in order, merged                  Merged    halves, first-leads, second-leads
---   what the loops keep                          Loops     one-inserted, Merging, one-copied
+--   a number put among numbers in order          Inserted  from_left, place_rising, insert_rising, all_rising, insert_length, all_append, insert_swap
+--   halves put in order and put together         Merged    put_in_order, halves
+--   one list in order of the same numbers        Ordered   sorted_is
 pub mod Inserted
 pub mod Merged
-pub mod Loops
+pub mod Ordered

@@ -1,5 +1,5 @@
 -- The starred examples, in the order of docs/CHART.md, each under its line, over the definitions that the calls' contracts cite.
-use Rattle.std.specs.Prelude.{◌≡◌, true, false, List, [], ◌∷◌, ◌++◌, ℕ, ℤ}
+use Rattle.std.specs.Prelude.{◌≡◌, true, false, List, [], ◌∷◌, ◌++◌, ℕ, ℤ, Some}
 use Rattle.line_segment.specs.declared.Meeting.TheVariants.{Nothing, Crossing, Overlap}
 use Rattle.charts.specs.Answer.{done_with, refused_with}
 use Rattle.charts.specs.Pair.{meeting_of}
@@ -7,7 +7,6 @@ use Rattle.charts.specs.Piece.{piece_at}
 use Rattle.place.specs.declared.Where.{Where}
 use Rattle.sweep.specs.Ported.{ported}
 use Rattle.sweep.specs.Run.{visited}
-use Rattle.ported_run.specs.declared.Last.TheVariants.{At}
 use Rattle.bentley_ottmann.specs.Swept.{sweep_of, lent_after}
 use Rattle.starred.specs.Written.{piece, at, end, met, place, read, coordinate}
 
@@ -32,10 +31,10 @@ pub record Starred : Type 0 where
   pub points : visited (ported 2 (piece_at cross)) 9 ≡ at 0 0 1 ∷ at 0 4 1 ∷ at 2 2 1 ∷ at 4 0 1 ∷ at 4 4 1 ∷ []
   -- "Budget 2 lists nothing, 3 lists (0,1)."
   pub two_steps : sweep_of cross 2 2
-      ≡ record { number = 0; place = 0; pairs = 0; steps = 2; ended = false; complete = true; last = At (at 0 4 1); examined = 1 }
+      ≡ record { number = 0; place = 0; pairs = 0; steps = 2; ended = false; complete = true; last = Some (at 0 4 1); examined = 1 }
   pub two_list : (u v : ℕ) → lent_after cross 2 (u ∷ v ∷ []) ≡ u ∷ v ∷ []
   pub three_steps : sweep_of cross 3 2
-      ≡ record { number = 0; place = 0; pairs = 1; steps = 3; ended = false; complete = true; last = At (at 2 2 1); examined = 2 }
+      ≡ record { number = 0; place = 0; pairs = 1; steps = 3; ended = false; complete = true; last = Some (at 2 2 1); examined = 2 }
   pub three_list : (u v : ℕ) → lent_after cross 3 (u ∷ v ∷ []) ≡ 0 ∷ 1 ∷ []
   -- "(0,0)-(1,1) and (0,1)-(2,0), kind 3: Crossing at 2, 2 over 3."
   pub thirds_cross : meeting_of thirds ≡ met Crossing

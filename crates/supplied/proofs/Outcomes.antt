@@ -3,7 +3,7 @@
 -- Assumes nothing.
 use mathlib.Core.Path.{◌≡◌, refl, sym, ap, ap₂, ◌∙◌}
 use mathlib.Core.Bool.{Bool, true, false, cond, not, ◌&&◌}
-use mathlib.Core.List.{List, [], ◌∷◌, ◌++◌}
+use mathlib.Core.List.{List, ◌++◌}
 use Prim.Native.Nat.{ℕ, zero, suc, ◌/◌, ◌≤◌, ◌<◌}
 use native.Mathlib.Omega.{arith}
 use borrow.Author.Tests.{leb-false}
@@ -11,14 +11,15 @@ use lib.Dec.{eqb, leb}
 use lib.IntN.{ℤ}
 use lib.ListN.{length}
 use Rattle.charts.specs.Chart.{most}
-use Rattle.charts.specs.declared.Verdict.TheVariants.{Accepted as Going, Refused as Stopped}
+use Rattle.charts.specs.Verdict.{Accepted as Going, Refused as Stopped}
 use Rattle.naive.specs.AllPairs.{meets}
 use Rattle.naive.specs.Pairs.{Pair, rows}
 use Rattle.naive.proofs.Rows.{rows_same}
-use Rattle.supplied.specs.declared.First.{First}
-use Rattle.supplied.specs.declared.First.TheVariants.{None, At}
+use Rattle.std.specs.Prelude.{Option, None, Some}
+use Rattle.supplied.specs.declared.EntryFault.{EntryFault}
+use Rattle.supplied.specs.declared.EntryFault.TheVariants.{NoPiece, Itself, Apart, Repeated}
 use Rattle.supplied.specs.declared.Checked.TheVariants.{Fault, Refused}
-use Rattle.supplied.specs.Entries.{one, other, top, low, first_of, named, fault_of, fault_at, faults, missing}
+use Rattle.supplied.specs.Entries.{one, other, top, low, first_of, told_at, Faulty, named, fault_of, fault_at, faults, missing}
 use Rattle.supplied.specs.Checking.{told, held_to, supplied_of, checked_of}
 use Rattle.supplied.specs.Marks.{Marked, Walked, unmarked}
 use Rattle.supplied.proofs.Entries.{in_order}
@@ -32,42 +33,43 @@ same_missing test n bytes marks h m =
     (λ a b g l. ap (λ (t : Bool). not t && test a b) (m.says a b l (omega arith)))
 
 module _ (test : ℕ → ℕ → Bool) (n : ℕ) (bytes : List ℕ) where
-  pub told_fault : (marks : List Bool) (i k : ℕ) (r : First) → Walked test n bytes marks r → r ≡ At i k → Fault i k ≡ held_to test n bytes
+  pub told_fault : (marks : List Bool) (i : ℕ) (k : EntryFault) (r : Option Faulty) → Walked test n bytes marks r → r ≡ Some (i, k) → Fault i k ≡ held_to test n bytes
   unfolding held_to
   told_fault marks i k r w e = rw (sym w.first ∙ e)
 
-  pub told_missing : (marks : List Bool) (r m : First) → n ≤ most → Walked test n bytes marks r → r ≡ None → m ≡ first_of (rows (unmarked marks test) n) → told None m ≡ held_to test n bytes
+  pub told_missing : (marks : List Bool) (r : Option Faulty) (m : Option Pair) → n ≤ most → Walked test n bytes marks r → r ≡ None → m ≡ first_of (rows (unmarked marks test) n) → told None m ≡ held_to test n bytes
   unfolding held_to
   told_missing marks r m h w e f = rw (sym w.first ∙ e, f, same_missing test n bytes marks h (w.marked e))
 
 -- ---- two tests that agree on pieces say the same
 module _ (f g : ℕ → ℕ → Bool) (n : ℕ) (bytes : List ℕ) (agree : (a b : ℕ) → a < n → b < n → f a b ≡ g a b) where
+  -- the fault of entry i, by whether a number is not a piece's and whether its pair meets
+  abbrev judged : ℕ → Bool → Bool → Option EntryFault
+  judged i t u =
+      cond t (Some NoPiece)
+      (cond (eqb (top bytes i) (low bytes i)) (Some Itself)
+      (cond u (cond (named bytes i (top bytes i) (low bytes i)) (Some Repeated) None) (Some Apart)))
+
   same_fault : (i : ℕ) → fault_at bytes f n i ≡ fault_at bytes g n i
   unfolding fault_at fault_of
   same_fault i = go (leb n (top bytes i)) refl
     where
-      r : Bool
-      r = named bytes i (top bytes i) (low bytes i)
-
-      go : (t : Bool) → leb n (top bytes i) ≡ t
-          → ◌≡◌ {A = ℕ}
-          (cond t 1 (cond (eqb (top bytes i) (low bytes i)) 2 (cond (f (top bytes i) (low bytes i)) (cond r 4 0) 3)))
-          (cond t 1 (cond (eqb (top bytes i) (low bytes i)) 2 (cond (g (top bytes i) (low bytes i)) (cond r 4 0) 3)))
+      go : (t : Bool) → leb n (top bytes i) ≡ t → judged i t (f (top bytes i) (low bytes i)) ≡ judged i t (g (top bytes i) (low bytes i))
       go true e = refl
       go false e =
           let h = leb-false _ _ e in
           let k = in_order (one bytes i) (other bytes i) in
-          ap {B = ℕ} (λ (t : Bool). cond (eqb (top bytes i) (low bytes i)) 2 (cond t (cond r 4 0) 3)) (agree (top bytes i) (low bytes i) h (omega arith))
+          ap (judged i false) (agree (top bytes i) (low bytes i) h (omega arith))
 
   same_faults : (i : ℕ) → faults bytes f n i ≡ faults bytes g n i
   unfolding faults
   same_faults zero = refl
-  same_faults (suc i) = ap₂ (λ (l : List Pair) (k : ℕ). l ++ cond (eqb k 0) [] ((i, k) ∷ [])) (same_faults i) (same_fault i)
+  same_faults (suc i) = ap₂ (λ (l : List Faulty) (o : Option EntryFault). l ++ told_at i o) (same_faults i) (same_fault i)
 
   pub same_told : held_to f n bytes ≡ held_to g n bytes
   unfolding held_to missing
   same_told =
-      ap₂ (λ (l m : List Pair). told (first_of l) (first_of m)) (same_faults (length bytes / 2))
+      ap₂ (λ (l : List Faulty) (m : List Pair). told (first_of l) (first_of m)) (same_faults (length bytes / 2))
       (rows_same _ _ n (λ a b h l. ap (λ (t : Bool). not (named bytes (length bytes / 2) a b) && t) (agree a b h (omega arith))))
 
 -- ---- the call

@@ -18,15 +18,16 @@ use lib.ListN.{length}
 use Rattle.line_segment.proofs.Promises.{says_yes_exactly}
 use Rattle.charts.specs.Chart.{verdict_of}
 use Rattle.charts.specs.Piece.{piece_at}
-use Rattle.charts.specs.declared.Verdict.TheVariants.{Accepted as Going}
+use Rattle.charts.specs.Verdict.{Accepted as Going}
 use Rattle.charts.proofs.Accepted.{pieces_have_length}
 use Rattle.naive.specs.AllPairs.{meets}
 use Rattle.naive.specs.Pairs.{Pair, rows}
 use Rattle.naive.specs.Demand.{Pairwise, Before}
 use Rattle.naive.proofs.Listed.{rows_say, rows_have, rows_ascend}
-use Rattle.supplied.specs.declared.First.{First}
-use Rattle.supplied.specs.declared.First.TheVariants.{None, At}
-use Rattle.supplied.specs.Entries.{one, other, top, low, first_of, named, fault_of, fault_at, faults, missing}
+use Rattle.std.specs.Prelude.{Option, None, Some}
+use Rattle.supplied.specs.declared.EntryFault.{EntryFault}
+use Rattle.supplied.specs.declared.EntryFault.TheVariants.{NoPiece, Itself, Apart, Repeated}
+use Rattle.supplied.specs.Entries.{one, other, top, low, first_of, told_at, Faulty, number_of, named, fault_of, fault_at, faults, missing}
 use Rattle.supplied.specs.Checking.{told, held_to}
 use Rattle.supplied.specs.Demand.{Meets, AtFault, no_piece, itself, apart, repeated, Good, Lacks, Due, fault, lacks, accepted, RefusesInOrder, SaysWhatIsDue}
 use Rattle.supplied.proofs.Entries.{in_order}
@@ -40,37 +41,36 @@ clash z = absurd (omega arith)
 -- ---- the first of the faults
 module _ (bytes : List ℕ) (test : ℕ → ℕ → Bool) (n : ℕ) where
   -- up to entry m: the first fault
-  record Fails (m i k : ℕ) : Type 0 where
+  record Fails (m i : ℕ) (k : EntryFault) : Type 0 where
     below : i < m
-    earlier : (j : ℕ) → j < i → fault_at bytes test n j ≡ 0
-    here_fails : fault_at bytes test n i ≡ k
-    a_fault : ¬ (k ≡ 0)
+    earlier : (j : ℕ) → j < i → fault_at bytes test n j ≡ None
+    here_fails : fault_at bytes test n i ≡ Some k
 
   abbrev Clean : ℕ → Type 0
-  Clean m = (j : ℕ) → j < m → fault_at bytes test n j ≡ 0
+  Clean m = (j : ℕ) → j < m → fault_at bytes test n j ≡ None
 
-  one_more : (m : ℕ) → Clean m → fault_at bytes test n m ≡ 0 → Clean (suc m)
+  one_more : (m : ℕ) → Clean m → fault_at bytes test n m ≡ None → Clean (suc m)
   one_more m h e j l = ⊎_elim (λ (q : j ≡ m). ap (fault_at bytes test n) q ∙ e) (λ (k : j < m). h j k) (eq-or-lt_of_le {n = j} {m = m} (omega arith))
 
-  abbrev Found : ℕ → First → Type 0
+  abbrev Found : ℕ → Option Faulty → Type 0
   Found m None = Clean m
-  Found m (At i k) = Fails m i k
+  Found m (Some (i, k)) = Fails m i k
 
   found : (m : ℕ) → Found m (first_of (faults bytes test n m))
   unfolding faults
   found zero = λ j l. absurd (omega arith)
-  found (suc m) = go (faults bytes test n m) (found m) (eqb (fault_at bytes test n m) 0) refl
+  found (suc m) = go (faults bytes test n m) (found m) (fault_at bytes test n m) refl
     where
-      go : (l : List Pair) → Found m (first_of l) → (t : Bool) → eqb (fault_at bytes test n m) 0 ≡ t → Found (suc m) (first_of (l ++ cond t [] ((m, fault_at bytes test n m) ∷ [])))
-      go (p ∷ l) f t e = record { below = (let h = f.below in omega arith); earlier = f.earlier; here_fails = f.here_fails; a_fault = f.a_fault }
-      go [] f true e = one_more m f (eqb-true _ _ e)
-      go [] f false e = record { below = omega arith; earlier = f; here_fails = refl; a_fault = eqb-false _ _ e }
+      go : (l : List Faulty) → Found m (first_of l) → (o : Option EntryFault) → fault_at bytes test n m ≡ o → Found (suc m) (first_of (l ++ told_at m o))
+      go (p ∷ l) f o e = record { below = (let h = f.below in omega arith); earlier = f.earlier; here_fails = f.here_fails }
+      go [] f None e = one_more m f e
+      go [] f (Some k) e = record { below = omega arith; earlier = f; here_fails = e }
 
 -- ---- the first of the rows
 module _ (test : ℕ → ℕ → Bool) (n : ℕ) where
-  abbrev Leads : First → Type 0
+  abbrev Leads : Option Pair → Type 0
   Leads None = (p : Pair) → ¬ In p (rows test n)
-  Leads (At a b) = In (a, b) (rows test n) × ((p : Pair) → In p (rows test n) → (◌≡◌ {A = Pair} p (a, b)) ⊎ Before (a, b) p)
+  Leads (Some q) = In q (rows test n) × ((p : Pair) → In p (rows test n) → (p ≡ q) ⊎ Before q p)
 
   leads : Leads (first_of (rows test n))
   leads = go (rows test n) (rows_ascend test n) refl
@@ -84,12 +84,6 @@ module _ (list : List ℤ) (n : ℕ) (bytes : List ℕ) (sound : verdict_of list
   meets_says : (a b : ℕ) → a < n → b < n → (meets list a b ≡ true) ↔ Meets list n bytes a b
   unfolding meets
   meets_says a b h l = says_yes_exactly (piece_at list a) (piece_at list b) (pieces_have_length list n a sound h) (pieces_have_length list n b sound l)
-
-  never : {i k : ℕ} → AtFault list n bytes i k → k ≡ 0 → ⊥
-  never (no_piece h) e = absurd (omega arith)
-  never (itself h q) e = absurd (omega arith)
-  never (apart h l d m) e = absurd (omega arith)
-  never (repeated h l d m r) e = absurd (omega arith)
 
   module _ (i : ℕ) where
     abbrev x : ℕ
@@ -119,45 +113,47 @@ module _ (list : List ℤ) (n : ℕ) (bytes : List ℕ) (sound : verdict_of list
     ordered : ¬ (a ≡ b) → b < a
     ordered d = let o = in_order x y in omega arith
 
+    -- what a fault, or none, says of the entry
+    abbrev Judged : Option EntryFault → Type 0
+    Judged None = Good list n bytes i
+    Judged (Some k) = AtFault list n bytes i (number_of k)
+
     -- the fault that the definition gives is the one that the entry has
-    judge : ((fault_at bytes (meets list) n i ≡ 0) × Good list n bytes i) ⊎ AtFault list n bytes i (fault_at bytes (meets list) n i)
+    judge : Judged (fault_at bytes (meets list) n i)
     unfolding fault_at fault_of
     judge = go (leb n a) refl (eqb a b) refl (meets list a b) refl (named bytes i a b) refl
       where
         go : (t : Bool) → leb n a ≡ t → (u : Bool) → eqb a b ≡ u → (v : Bool) → meets list a b ≡ v → (w : Bool) → named bytes i a b ≡ w
-            → (◌≡◌ {A = ℕ} (cond t 1 (cond u 2 (cond v (cond w 4 0) 3))) 0 × Good list n bytes i) ⊎ AtFault list n bytes i (cond t 1 (cond u 2 (cond v (cond w 4 0) 3)))
-        go true p u q v r w s = inr (no_piece (outside (leb-true _ _ p)))
-        go false p true q v r w s = inr (itself (both_pieces (leb-false _ _ p)).0 (same (eqb-true _ _ q)))
+            → Judged (cond t (Some NoPiece) (cond u (Some Itself) (cond v (cond w (Some Repeated) None) (Some Apart))))
+        go true p u q v r w s = no_piece (outside (leb-true _ _ p))
+        go false p true q v r w s = itself (both_pieces (leb-false _ _ p)).0 (same (eqb-true _ _ q))
         go false p false q false r w s =
             let k = both_pieces (leb-false _ _ p) in
             let o = in_order x y in
             let h : a < n = leb-false _ _ p in
-            inr (apart k.0 k.1 (differ (eqb-false _ _ q)) (λ m. clash (ap (λ (t : Bool). cond t 1 0) (sym r ∙ (meets_says a b h (omega arith)).1 (meet_ordered list n bytes i m)))))
+            apart k.0 k.1 (differ (eqb-false _ _ q)) (λ m. clash (ap (λ (t : Bool). cond t 1 0) (sym r ∙ (meets_says a b h (omega arith)).1 (meet_ordered list n bytes i m))))
         go false p false q true r true s =
             let k = both_pieces (leb-false _ _ p) in
             let o = in_order x y in
             let h : a < n = leb-false _ _ p in
-            inr (repeated k.0 k.1 (differ (eqb-false _ _ q)) (meet_given list n bytes i ((meets_says a b h (omega arith)).0 r)) (named_given list n bytes i i (named_yes list n bytes i a b s)))
+            repeated k.0 k.1 (differ (eqb-false _ _ q)) (meet_given list n bytes i ((meets_says a b h (omega arith)).0 r)) (named_given list n bytes i i (named_yes list n bytes i a b s))
         go false p false q true r false s =
             let k = both_pieces (leb-false _ _ p) in
             let o = in_order x y in
             let h : a < n = leb-false _ _ p in
-            inl (
-              refl,
-              record {
-                first_piece = k.0;
-                second_piece = k.1;
-                two = differ (eqb-false _ _ q);
-                meeting = meet_given list n bytes i ((meets_says a b h (omega arith)).0 r);
-                new = λ m. clash (ap (λ (t : Bool). cond t 1 0) (sym s ∙ named_has list n bytes i a b (ordered (eqb-false _ _ q)) (named_ordered list n bytes i i m)));
-              },
-            )
+            record {
+              first_piece = k.0;
+              second_piece = k.1;
+              two = differ (eqb-false _ _ q);
+              meeting = meet_given list n bytes i ((meets_says a b h (omega arith)).0 r);
+              new = λ m. clash (ap (λ (t : Bool). cond t 1 0) (sym s ∙ named_has list n bytes i a b (ordered (eqb-false _ _ q)) (named_ordered list n bytes i i m)));
+            }
 
-    entry_good : fault_at bytes (meets list) n i ≡ 0 → Good list n bytes i
-    entry_good e = ⊎_elim (λ w. w.1) (λ w. absurd (never w e)) judge
+    entry_good : fault_at bytes (meets list) n i ≡ None → Good list n bytes i
+    entry_good e = subst Judged e judge
 
-    entry_fault : (k : ℕ) → fault_at bytes (meets list) n i ≡ k → ¬ (k ≡ 0) → AtFault list n bytes i k
-    entry_fault k e d = ⊎_elim (λ w. absurd (d (sym e ∙ w.0))) (λ w. subst (AtFault list n bytes i) e w) judge
+    entry_fault : (k : EntryFault) → fault_at bytes (meets list) n i ≡ Some k → AtFault list n bytes i (number_of k)
+    entry_fault k e = subst Judged e judge
 
   -- ---- the missing pairs
   abbrev test : ℕ → ℕ → Bool
@@ -204,10 +200,10 @@ module _ (list : List ℤ) (n : ℕ) (bytes : List ℕ) (sound : verdict_of list
   unfolding held_to missing
   due = go (first_of (faults bytes (meets list) n (length bytes / 2))) (found bytes (meets list) n (length bytes / 2)) (first_of (rows test n)) (leads test n)
     where
-      go : (f : First) → Found bytes (meets list) n (length bytes / 2) f → (m : First) → Leads test n m → Due list n bytes (told f m)
-      go (At i k) F m L = fault i k F.below (λ j h. entry_good j (F.earlier j h)) (entry_fault i k F.here_fails F.a_fault)
+      go : (f : Option Faulty) → Found bytes (meets list) n (length bytes / 2) f → (m : Option Pair) → Leads test n m → Due list n bytes (told f m)
+      go (Some (i, k)) F m L = fault i k F.below (λ j h. entry_good j (F.earlier j h)) (entry_fault i k F.here_fails)
       go None F None L = accepted (λ j h. entry_good j (F j h)) (λ a b l. L (a, b) (lacks_in a b l))
-      go None F (At a b) L = lacks a b (λ j h. entry_good j (F j h)) (in_lacks a b L.0) (λ c d h l. not_before a b c d h (L.1 (c, d) (lacks_in c d l)))
+      go None F (Some (a, b)) L = lacks a b (λ j h. entry_good j (F j h)) (in_lacks a b L.0) (λ c d h l. not_before a b c d h (L.1 (c, d) (lacks_in c d l)))
 
 pub says_what_is_due : SaysWhatIsDue
 says_what_is_due list n bytes e h = subst (Due list n bytes) (checked_held list bytes n (supplied_accepted list (length bytes) n e h)) (due list n bytes e)

@@ -9,8 +9,8 @@ use borrow.Author.Tests.{eq-eqb, ne_eqb, eqb-true}
 use lib.Dec.{eqb}
 use lib.IntN.{ℤ}
 use Rattle.charts.specs.Chart.{verdict_of}
-use Rattle.charts.specs.declared.Verdict.{Verdict}
-use Rattle.charts.specs.declared.Verdict.TheVariants.{Accepted, Refused}
+use Rattle.charts.specs.Verdict.{Verdict}
+use Rattle.charts.specs.Verdict.{Accepted, Refused}
 use Rattle.supplied.specs.Checking.{then_even, supplied_of}
 
 module _ (list : List ℤ) (bytes : ℕ) where

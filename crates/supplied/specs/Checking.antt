@@ -1,19 +1,18 @@
 -- What is said of a supplier's list: the refusals, the first entry at fault, the first missing pair, or that it is accepted.
-use Rattle.std.specs.Prelude.{Bool, cond, not, List, ℕ, ◌/◌, ◌%◌, eqb, ℤ, length}
+use Rattle.std.specs.Prelude.{Bool, cond, not, List, ℕ, ◌/◌, ◌%◌, eqb, ℤ, length, Option, None, Some}
 use Rattle.charts.specs.Chart.{verdict_of}
-use Rattle.charts.specs.declared.Verdict.{Verdict}
-use Rattle.charts.specs.declared.Verdict.TheVariants.{Accepted as Going, Refused as Stopped}
+use Rattle.charts.specs.Verdict.{Verdict}
+use Rattle.charts.specs.Verdict.{Accepted as Going, Refused as Stopped}
 use Rattle.naive.specs.AllPairs.{meets}
-use Rattle.supplied.specs.declared.First.{First}
-use Rattle.supplied.specs.declared.First.TheVariants.{None, At}
+use Rattle.naive.specs.Pairs.{Pair}
 use Rattle.supplied.specs.declared.Checked.{Checked}
 use Rattle.supplied.specs.declared.Checked.TheVariants.{Accepted, Fault, Missing, Refused}
-use Rattle.supplied.specs.Entries.{faults, missing, first_of}
+use Rattle.supplied.specs.Entries.{Faulty, faults, missing, first_of}
 
 -- "name the first entry at fault, .. or, when all entries are good, the first missing pair"
-abbrev pub told : First → First → Checked
-told (At i fault) m = Fault i fault
-told None (At a b) = Missing a b
+abbrev pub told : Option Faulty → Option Pair → Checked
+told (Some (i, fault)) m = Fault i fault
+told None (Some (a, b)) = Missing a b
 told None None = Accepted
 
 unfoldable pub held_to : (ℕ → ℕ → Bool) → ℕ → List ℕ → Checked

@@ -1,8 +1,8 @@
 -- The entries of a supplier's list of pairs, for any test of two numbers: the faults, and the pairs left out.
-use Rattle.std.specs.Prelude.{Bool, false, cond, not, ◌&&◌, ◌||◌, List, [], ◌∷◌, ◌++◌, ℕ, zero, suc, ◌+◌, ◌*◌, ◌/◌, eqb, ltb, leb, length, get_or}
+use Rattle.std.specs.Prelude.{Bool, false, cond, not, ◌&&◌, ◌||◌, List, [], ◌∷◌, ◌++◌, ℕ, zero, suc, ◌+◌, ◌*◌, ◌/◌, eqb, ltb, leb, length, get_or, Option, None, Some}
 use Rattle.naive.specs.Pairs.{Pair, rows}
-use Rattle.supplied.specs.declared.First.{First}
-use Rattle.supplied.specs.declared.First.TheVariants.{None, At}
+use Rattle.supplied.specs.declared.EntryFault.{EntryFault}
+use Rattle.supplied.specs.declared.EntryFault.TheVariants.{NoPiece, Itself, Apart, Repeated}
 
 -- "in either number order": of two numbers the greater and the lesser
 unfoldable pub greater : ℕ → ℕ → ℕ
@@ -12,9 +12,25 @@ unfoldable pub lesser : ℕ → ℕ → ℕ
 lesser x y = cond (ltb x y) x y
 
 -- the first of a list
-abbrev pub first_of : List Pair → First
+abbrev pub first_of : {A : Type 0} → List A → Option A
 first_of [] = None
-first_of (p ∷ ps) = At p.0 p.1
+first_of (x ∷ xs) = Some x
+
+-- the faults of an entry, 1 to 4 in the rule's order
+abbrev pub number_of : EntryFault → ℕ
+number_of NoPiece = 1
+number_of Itself = 2
+number_of Apart = 3
+number_of Repeated = 4
+
+-- an entry at fault, and its fault
+abbrev pub Faulty : Type 0
+Faulty = ℕ × EntryFault
+
+-- entry i with its fault, where it has one
+abbrev pub told_at : ℕ → Option EntryFault → List Faulty
+told_at i None = []
+told_at i (Some fault) = (i, fault) ∷ []
 
 module _ (bytes : List ℕ) where
   -- two bytes an entry, "entries counted from 0"
@@ -38,17 +54,18 @@ module _ (bytes : List ℕ) where
 
   module _ (meets : ℕ → ℕ → Bool) (n : ℕ) where
     -- "one of its numbers is not a piece's, both are equal, its pair does not meet, or it repeats the pair of an earlier
-    -- entry": 1 to 4, the first that holds, and 0 where none does
-    unfoldable pub fault_of : Bool → ℕ → ℕ → ℕ
-    fault_of repeats a b = cond (leb n a) 1 (cond (eqb a b) 2 (cond (meets a b) (cond repeats 4 0) 3))
+    -- entry": the first that holds
+    unfoldable pub fault_of : Bool → ℕ → ℕ → Option EntryFault
+    fault_of repeats a b =
+        cond (leb n a) (Some NoPiece) (cond (eqb a b) (Some Itself) (cond (meets a b) (cond repeats (Some Repeated) None) (Some Apart)))
 
-    unfoldable pub fault_at : ℕ → ℕ
+    unfoldable pub fault_at : ℕ → Option EntryFault
     fault_at i = fault_of (named i (top i) (low i)) (top i) (low i)
 
     -- those of the first i entries that are at fault, in order, each with its fault
-    unfoldable pub faults : ℕ → List Pair
+    unfoldable pub faults : ℕ → List Faulty
     faults zero = []
-    faults (suc i) = faults i ++ cond (eqb (fault_at i) 0) [] ((i, fault_at i) ∷ [])
+    faults (suc i) = faults i ++ told_at i (fault_at i)
 
     -- the pairs that meet and are not named, "in all-pairs order"
     unfoldable pub missing : List Pair

@@ -1,10 +1,8 @@
 -- One mark for each pair: what the marks say while the entries are walked, and after.
-use Rattle.std.specs.Prelude.{◌≡◌, Bool, false, not, ◌&&◌, List, ℕ, ◌*◌, ◌/◌, ◌<◌, length, get_or}
+use Rattle.std.specs.Prelude.{◌≡◌, Bool, false, not, ◌&&◌, List, ℕ, ◌*◌, ◌/◌, ◌<◌, length, get_or, Option, None}
 use Rattle.charts.specs.Chart.{most}
 use Rattle.charts.specs.PairList.{cell}
-use Rattle.supplied.specs.declared.First.{First}
-use Rattle.supplied.specs.declared.First.TheVariants.{None}
-use Rattle.supplied.specs.Entries.{named, faults, first_of}
+use Rattle.supplied.specs.Entries.{Faulty, named, faults, first_of}
 
 -- the mark of a pair
 abbrev pub mark_of : List Bool → ℕ → ℕ → Bool
@@ -20,6 +18,6 @@ unfoldable pub unmarked : List Bool → (ℕ → ℕ → Bool) → ℕ → ℕ �
 unmarked marks test a b = not (mark_of marks a b) && test a b
 
 -- after the walk: the first fault, and where there is none the marks of all entries
-pub record Walked (test : ℕ → ℕ → Bool) (n : ℕ) (bytes : List ℕ) (marks : List Bool) (r : First) : Type 0 where
+pub record Walked (test : ℕ → ℕ → Bool) (n : ℕ) (bytes : List ℕ) (marks : List Bool) (r : Option Faulty) : Type 0 where
   pub first : r ≡ first_of (faults bytes test n (length bytes / 2))
   pub marked : r ≡ None → Marked marks bytes (length bytes / 2)

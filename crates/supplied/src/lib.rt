@@ -1,21 +1,27 @@
 // A supplier's list of pairs held to a chart: what is said of it. No function stands here.
-// What is said of a supplier's list.
 #![tactic(auto)]
 
+// What is said of a supplier's list.
 #[derive(Clone, Copy)]
 pub enum Checked {
     Accepted,
-    // the first entry at fault, counted from 0, and which of the four faults it has
-    Fault(usize, usize),
+    // the first entry at fault, counted from 0, and what is wrong with it
+    Fault(usize, EntryFault),
     // the first pair that meets and is not named, greater number first
     Missing(usize, usize),
     // the number and the place of the refusal
     Refused(u8, usize),
 }
 
-// The first of a list of two numbers each.
+// What is wrong with an entry: the first of these that holds.
 #[derive(Clone, Copy)]
-pub enum First {
-    None,
-    At(usize, usize),
+pub enum EntryFault {
+    // one of its numbers is not a piece's
+    NoPiece,
+    // its two numbers are equal
+    Itself,
+    // its pair does not meet
+    Apart,
+    // an earlier entry names its pair
+    Repeated,
 }

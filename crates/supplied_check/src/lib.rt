@@ -3,13 +3,14 @@
 
 ghost use Rattle.std.specs.Prelude.{◌≡◌, ◌≤◌};
 ghost use Rattle.charts.specs.Chart.{most};
+ghost use Rattle.charts.specs.Refusal.{told};
 ghost use Rattle.naive.specs.Decoded.{meets_in};
 ghost use Rattle.naive.specs.Sides.{Long};
 ghost use Rattle.supplied.specs.Checking.{held_to, supplied_of, checked_of};
 
-use charts::{MOST, Verdict};
+use charts::{MOST, Reason, Refusal};
 use naive::Pieces;
-use supplied::{Checked, First};
+use supplied::Checked;
 
 // What is said of a list, by the pieces of an accepted chart.
 fn held_to(pieces: Pieces, n: usize, bytes: &[u8]) -> Checked
@@ -18,28 +19,23 @@ fn held_to(pieces: Pieces, n: usize, bytes: &[u8]) -> Checked
 {
     let mut marks = [false; MOST * MOST];
     match supplied_entries::mark_entries(pieces, n, bytes, &mut marks) {
-        First::At(i, fault) => Checked::Fault(i, fault),
-        First::None => match supplied_missing::first_missing(pieces, n, &marks) {
-            First::At(a, b) => Checked::Missing(a, b),
-            First::None => Checked::Accepted,
+        Some((i, fault)) => Checked::Fault(i, fault),
+        None => match supplied_missing::first_missing(pieces, n, &marks) {
+            Some((a, b)) => Checked::Missing(a, b),
+            None => Checked::Accepted,
         },
     }
 }
 
 // The verdict on the chart, then 16.
-fn supplied_of(list: &[i32], bytes: usize) -> Verdict
-    ensures { result ≡ supplied_of list.now bytes }
+fn supplied_of(list: &[i32], bytes: usize) -> Result<usize, Refusal>
+    ensures { told result ≡ supplied_of list.now bytes }
 {
-    match chart_verdict::verdict_of(list) {
-        Verdict::Refused(number, place) => Verdict::Refused(number, place),
-        Verdict::Accepted(n) => {
-            if bytes % 2 != 0 {
-                Verdict::Refused(16, 0)
-            } else {
-                Verdict::Accepted(n)
-            }
-        }
+    let n = chart_verdict::verdict_of(list)?;
+    if bytes % 2 != 0 {
+        return Err(Reason::OddBytes.at(0));
     }
+    Ok(n)
 }
 
 // Whether a list of pairs, two bytes a pair in any order, names each meeting pair of a chart once, in either number order.
@@ -47,7 +43,7 @@ pub fn check(list: &[i32], bytes: &[u8]) -> Checked
     ensures { result ≡ checked_of list.now bytes.now }
 {
     match supplied_of(list, bytes.len()) {
-        Verdict::Refused(number, place) => Checked::Refused(number, place),
-        Verdict::Accepted(n) => held_to(all_pairs::pieces_of(list, n), n, bytes),
+        Err(refusal) => Checked::Refused(refusal.reason.number(), refusal.place),
+        Ok(n) => held_to(all_pairs::pieces_of(list, n), n, bytes),
     }
 }

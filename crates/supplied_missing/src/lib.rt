@@ -15,7 +15,6 @@ ghost use Rattle.supplied.specs.Marks.{unmarked};
 use charts::MOST;
 use line_segment::LineSegment;
 use naive::Pieces;
-use supplied::First;
 
 // Whether a pair meets that no entry names.
 fn is_missing(named: bool, asking: LineSegment, other: LineSegment) -> bool
@@ -29,18 +28,17 @@ fn is_missing(named: bool, asking: LineSegment, other: LineSegment) -> bool
 }
 
 // The first pair, for a from 0, for b below a, that meets and is not marked.
-pub fn first_missing(pieces: Pieces, n: usize, marks: &[bool]) -> First
+pub fn first_missing(pieces: Pieces, n: usize, marks: &[bool]) -> Option<(usize, usize)>
     requires { (n ≤ most) × Long pieces.all n × (length marks.now ≡ most * most) }
     ensures { result ≡ first_of (rows (unmarked marks.now (meets_in pieces.all)) n) }
 {
     let all = pieces.all;
-    for a in 0..n {
-        let asking = all[a];
-        for b in 0..a {
-            if is_missing(marks[a * MOST + b], asking, all[b]) {
-                return First::At(a, b);
+    for (a, asking) in all[..n].iter().enumerate() {
+        for (b, other) in all[..a].iter().enumerate() {
+            if is_missing(marks[a * MOST + b], *asking, *other) {
+                return Some((a, b));
             }
         }
     }
-    First::None
+    None
 }

@@ -2,8 +2,8 @@
 use Rattle.std.specs.Prelude.{Bool, true, false, cond, ℕ, ℤ, pos, ◌+ℤ◌, ◌-ℤ◌, ◌*ℤ◌}
 use Rattle.fractions.specs.Order.{order, and_then}
 use Rattle.fractions.specs.Point.{point_order}
-use Rattle.fractions.specs.declared.Order.{Order}
-use Rattle.fractions.specs.declared.Order.TheVariants.{Less, Equal, Greater}
+use Rattle.std.specs.declared.cmp.Ordering.{Ordering}
+use Rattle.std.specs.Ordering.{is_lt, is_eq}
 use Rattle.fractions.specs.declared.Point.{Point}
 use Rattle.line_segment.specs.declared.LineSegment.{LineSegment}
 use Rattle.line_segment.specs.declared.Meeting.{Meeting}
@@ -14,20 +14,16 @@ use Rattle.line_segment.specs.Segment.{intersect_of, contains_of, crossing_of}
 use Rattle.charts.specs.Piece.{is_upright}
 use Rattle.sweep.specs.Chart.{Kind, nothing, crosses, overlaps, Chart}
 
-abbrev pub is_less : Order → Bool
-is_less Less = true
-is_less Equal = false
-is_less Greater = false
+abbrev pub is_less : Ordering → Bool
+is_less = is_lt
 
 abbrev pub kind_of : Meeting → Kind
 kind_of Nothing = nothing
 kind_of Crossing = crosses
 kind_of (Overlap s) = overlaps
 
-abbrev pub is_equal : Order → Bool
-is_equal Less = false
-is_equal Equal = true
-is_equal Greater = false
+abbrev pub is_equal : Ordering → Bool
+is_equal = is_eq
 
 -- a piece's height at p's x, above and below the line of the fraction.
 -- "An upright piece has the smaller y as its height": that of its min
@@ -39,15 +35,15 @@ height_above s p =
 unfoldable pub height_below : LineSegment → Point → ℤ
 height_below s p = cond (is_upright s) (pos 1) (run s *ℤ pos p.d)
 
-unfoldable pub height_order : Point → LineSegment → LineSegment → Order
+unfoldable pub height_order : Point → LineSegment → LineSegment → Ordering
 height_order p a b = order (height_above a p *ℤ height_below b p) (height_above b p *ℤ height_below a p)
 
 -- rise over run. An upright piece runs 0 and rises, so it "comes after sloped ones of that height"
-unfoldable pub slope_order : LineSegment → LineSegment → Order
+unfoldable pub slope_order : LineSegment → LineSegment → Ordering
 slope_order a b = order (rise a *ℤ run b) (rise b *ℤ run a)
 
 -- "The active list is sorted by height at p's x, then slope, then number."
-unfoldable pub rank_order : (ℕ → LineSegment) → Point → ℕ → ℕ → Order
+unfoldable pub rank_order : (ℕ → LineSegment) → Point → ℕ → ℕ → Ordering
 rank_order piece p i j =
     and_then (height_order p (piece i) (piece j))
     (and_then (slope_order (piece i) (piece j)) (order (pos i) (pos j)))

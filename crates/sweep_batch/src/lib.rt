@@ -12,13 +12,13 @@ fn sweep_charts(list: &[i32], lengths: &[usize], pairs: &mut [u8], results: &mut
     requires { Roomy list.now lengths.now pairs.old results.old }
     ensures { Writes list.now lengths.now pairs.old results.old pairs.new results.new }
 {
-    let charts = lengths.len();
     let mut from = 0;
     let mut at = 0;
     let mut first = 0;
-    for i in 0..charts {
-        let to = from + lengths[i];
-        let end = at + batch_refusals::need_of(lengths[i]);
+    // by offsets: to split off each part would take both lent slices out of their variables and put the rests back
+    for &length in lengths {
+        let to = from + length;
+        let end = at + batch_refusals::need_of(length);
         let next = first + NUMBERS;
         sweep_chart(
             &list[from..to],
@@ -36,10 +36,11 @@ fn sweep_charts(list: &[i32], lengths: &[usize], pairs: &mut [u8], results: &mut
 pub fn sweep_batch(list: &[i32], lengths: &[usize], pairs: &mut [u8], results: &mut [u64]) -> Answer
     ensures { Batches list.now lengths.now pairs.old results.old result pairs.new results.new }
 {
-    let number = batch_refusals::refusal_of(list.len(), lengths, pairs.len(), results.len());
-    if number != 0 {
-        return chart_verdict::refused(number, 0);
+    match batch_refusals::refusal_of(list.len(), lengths, pairs.len(), results.len()) {
+        Some(reason) => chart_verdict::refused(reason.at(0)),
+        None => {
+            sweep_charts(list, lengths, pairs, results);
+            chart_verdict::done(lengths.len())
+        }
     }
-    sweep_charts(list, lengths, pairs, results);
-    chart_verdict::done(lengths.len())
 }

@@ -10,8 +10,8 @@ use lib.IntN.{ℤ, neg_ℤ}
 use Rattle.integers.specs.Size.{Small}
 use Rattle.integers.proofs.Order.{≮→≥}
 use Rattle.integers.proofs.Sizes.{small_of}
-use Rattle.fractions.specs.declared.Order.{Order}
-use Rattle.fractions.specs.declared.Order.TheVariants.{Less, Equal, Greater}
+use Rattle.std.specs.declared.cmp.Ordering.{Ordering}
+use Rattle.std.specs.declared.cmp.Ordering.TheVariants.{Less, Equal, Greater}
 use Rattle.fractions.specs.declared.Point.{Point}
 use Rattle.line_segment.specs.declared.EndPoint.{EndPoint}
 use Rattle.line_segment.specs.Piece.{join_by, join_of, piece_of}
@@ -23,7 +23,7 @@ use Rattle.line_segment.proofs.Promises.{says_yes_exactly}
 use Rattle.charts.specs.Fault.{range, outside}
 use Rattle.charts.specs.Chart.{verdict_of}
 use Rattle.charts.specs.Piece.{coordinate_of, piece_at, is_upright, no_upright}
-use Rattle.charts.specs.declared.Verdict.TheVariants.{Accepted}
+use Rattle.charts.specs.Verdict.{Accepted}
 use Rattle.charts.proofs.Rows.{says_outside}
 use Rattle.charts.proofs.Accepted.{pieces_have_length}
 use Rattle.charts.proofs.Upright.{upright_found}
@@ -46,7 +46,7 @@ small v =
     rw e (small_of (≮→≥ (λ h. (says_outside (neg_ℤ range) range v).no e (inl h))) (≮→≥ (λ h. (says_outside (neg_ℤ range) range v).no e (inr h)))))
     (ask (outside (neg_ℤ range) range v))
 
-join_on : (o : Order) (a b : EndPoint) → Small 32767 a.x → Small 32767 a.y → Small 32767 b.x → Small 32767 b.y → OnChart (join_by o a b)
+join_on : (o : Ordering) (a b : EndPoint) → Small 32767 a.x → Small 32767 a.y → Small 32767 b.x → Small 32767 b.y → OnChart (join_by o a b)
 unfolding join_by
 join_on Less a b ax ay bx by = record { min_x = ax; min_y = ay; max_x = bx; max_y = by }
 join_on Equal a b ax ay bx by = record { min_x = bx; min_y = by; max_x = ax; max_y = ay }

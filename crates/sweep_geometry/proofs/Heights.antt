@@ -12,8 +12,8 @@ use Rattle.integers.proofs.Signs.{<_diff, p*p}
 use Rattle.integers.proofs.Order.{<_cert}
 use Rattle.integers.proofs.Naturals.{pos-<}
 use Rattle.fractions.specs.Order.{order}
-use Rattle.fractions.specs.declared.Order.{Order}
-use Rattle.fractions.specs.declared.Order.TheVariants.{Equal}
+use Rattle.std.specs.declared.cmp.Ordering.{Ordering}
+use Rattle.std.specs.declared.cmp.Ordering.TheVariants.{Equal}
 use Rattle.fractions.specs.declared.Point.{Point}
 use Rattle.fractions.proofs.Orders.{Answer, is_less_lem, is_equal_lem, is_greater, answer, order_less, order_equal, order_greater}
 use Rattle.line_segment.specs.declared.LineSegment.{LineSegment}
@@ -109,7 +109,7 @@ module _ (piece : ℕ → LineSegment) (p : Point) where
 pub order_diff : (a b : ℤ) → order a b ≡ order (pos 0) (b -ℤ a)
 order_diff a b = go (answer a b)
   where
-    go : {o : Order} → Answer a b o → o ≡ order (pos 0) (b -ℤ a)
+    go : {o : Ordering} → Answer a b o → o ≡ order (pos 0) (b -ℤ a)
     go (is_less_lem h) = sym (order_less (<_diff h))
     go (is_equal_lem e) = sym (order_equal (rw e (by_ring (b ∷ []) (search terms depth 60 fits 20000) tt)))
     go (is_greater h) = sym (order_greater (under (<_diff h)))

@@ -3,8 +3,8 @@ use mathlib.Core.Path.{◌≡◌, refl, ap, ◌∙◌}
 use mathlib.Core.Bool.{true, false}
 use Rattle.fractions.specs.Order.{turned}
 use Rattle.fractions.specs.Point.{point_order}
-use Rattle.fractions.specs.declared.Order.{Order}
-use Rattle.fractions.specs.declared.Order.TheVariants.{Less, Equal, Greater}
+use Rattle.std.specs.declared.cmp.Ordering.{Ordering}
+use Rattle.std.specs.declared.cmp.Ordering.TheVariants.{Less, Equal, Greater}
 use Rattle.fractions.specs.declared.Point.{Point}
 use Rattle.fractions.proofs.Points.{point_turned}
 use Rattle.sweep.specs.Ported.{is_less}
@@ -19,7 +19,7 @@ at_most p q e g =
 pub not_less : (p q : Point) → ¬ (point_order p q ≡ Greater) → is_less (point_order q p) ≡ false
 not_less p q f = go (point_order p q) refl
   where
-    go : (o : Order) → point_order p q ≡ o → is_less (point_order q p) ≡ false
+    go : (o : Ordering) → point_order p q ≡ o → is_less (point_order q p) ≡ false
     go Less e = ap is_less (point_turned p q ∙ ap turned e)
     go Equal e = ap is_less (point_turned p q ∙ ap turned e)
     go Greater e = absurd (f e)

@@ -10,8 +10,8 @@ use Rattle.integers.proofs.Signs.{<→≤}
 use Rattle.integers.proofs.Order.{<_cert, ≡→≤}
 use Rattle.integers.proofs.Naturals.{pos-<}
 use Rattle.fractions.specs.Order.{order, and_then}
-use Rattle.fractions.specs.declared.Order.{Order}
-use Rattle.fractions.specs.declared.Order.TheVariants.{Less, Equal, Greater}
+use Rattle.std.specs.declared.cmp.Ordering.{Ordering}
+use Rattle.std.specs.declared.cmp.Ordering.TheVariants.{Less, Equal, Greater}
 use Rattle.fractions.specs.declared.Point.{Point}
 use Rattle.fractions.proofs.Orders.{Answer, is_less_lem, is_equal_lem, is_greater, answer, order_equal, order_greater}
 use Rattle.line_segment.specs.declared.LineSegment.{LineSegment}
@@ -33,12 +33,12 @@ pub record Precedes (p : Point) (a b : LineSegment) : Type 0 where
   pub over : pos 0 <ℤ run a → run b ≡ pos 0 → pos 0 ≤ℤ side a p
 
 -- of an answer that is Less by one and then another: the first is not Greater, and where it is Equal the second is Less
-pub not_first : {A : Type 0} (o r : Order) → and_then o r ≡ Less → o ≡ Greater → A
+pub not_first : {A : Type 0} (o r : Ordering) → and_then o r ≡ Less → o ≡ Greater → A
 not_first Less r e f = never refl f (omega arith)
 not_first Equal r e f = never refl f (omega arith)
 not_first Greater r e f = never refl e (omega arith)
 
-pub then_second : (o r : Order) → and_then o r ≡ Less → o ≡ Equal → r ≡ Less
+pub then_second : (o r : Ordering) → and_then o r ≡ Less → o ≡ Equal → r ≡ Less
 then_second Less r e f = never refl f (omega arith)
 then_second Equal r e f = e
 then_second Greater r e f = never refl e (omega arith)
@@ -46,7 +46,7 @@ then_second Greater r e f = never refl e (omega arith)
 at_least : (z : ℤ) → ¬ (order (pos 0) z ≡ Greater) → pos 0 ≤ℤ z
 at_least z f = go (answer (pos 0) z) f
   where
-    go : {o : Order} → Answer (pos 0) z o → ¬ (o ≡ Greater) → pos 0 ≤ℤ z
+    go : {o : Ordering} → Answer (pos 0) z o → ¬ (o ≡ Greater) → pos 0 ≤ℤ z
     go (is_less_lem h) f = <→≤ h
     go (is_equal_lem e) f = ≡→≤ e
     go (is_greater h) f = absurd (f refl)
@@ -69,13 +69,13 @@ module _ (a b : LineSegment) (p : Point) (dp : 0 < p.d) where
       (order_diff _ _ ∙ ap (order (pos 0)) (above_side a p) ∙ unscaled (side a p))
 
   -- by the height, then by some slope by which an upright piece comes after a sloped one, then by r
-  module _ (lean r : Order) (down : run a ≡ pos 0 → pos 0 <ℤ rise a → pos 0 <ℤ run b → lean ≡ Greater)
+  module _ (lean r : Ordering) (down : run a ≡ pos 0 → pos 0 <ℤ rise a → pos 0 <ℤ run b → lean ≡ Greater)
       (meet : pos 0 <ℤ run a → pos 0 <ℤ run b → gap a b p ≡ pos 0 → tilt a b <ℤ pos 0 → ¬ (lean ≡ Greater) → side a p <ℤ pos 0)
       (h : and_then (full_height_order p a b) (and_then lean r) ≡ Less) where
     by_under : run a ≡ pos 0 → pos 0 <ℤ rise a → pos 0 <ℤ run b → side b p <ℤ pos 0
     by_under ea ra hb = go (answer (pos 0) (neg_ℤ (side b p))) (under_height ea hb)
       where
-        go : {o : Order} → Answer (pos 0) (neg_ℤ (side b p)) o → full_height_order p a b ≡ o → side b p <ℤ pos 0
+        go : {o : Ordering} → Answer (pos 0) (neg_ℤ (side b p)) o → full_height_order p a b ≡ o → side b p <ℤ pos 0
         go (is_less_lem g) e = <_cert (side b p ∷ []) g (search terms depth 60 fits 20000) tt
         go (is_equal_lem g) e = not_first lean r (then_second (full_height_order p a b) (and_then lean r) h e) (down ea ra hb)
         go (is_greater g) e = not_first (full_height_order p a b) (and_then lean r) h e
@@ -91,6 +91,6 @@ module _ (a b : LineSegment) (p : Point) (dp : 0 < p.d) where
         }
 
   -- by rising slope nothing meets ahead
-  pub full_precedes : (r : Order) → and_then (full_height_order p a b) (and_then (slope_order a b) r) ≡ Less → Precedes p a b
+  pub full_precedes : (r : Ordering) → and_then (full_height_order p a b) (and_then (slope_order a b) r) ≡ Less → Precedes p a b
   full_precedes r =
       precedes (slope_order a b) r (slope_down a b) (λ ha hb e t g. absurd (g (slope_by_tilt a b p dp ∙ order_greater t)))

@@ -6,8 +6,8 @@ use Prim.Native.Nat.{ℕ}
 use lib.IntN.{pos}
 use Rattle.integers.proofs.Naturals.{pos_injective}
 use Rattle.fractions.specs.Order.{order, turned, and_then}
-use Rattle.fractions.specs.declared.Order.{Order}
-use Rattle.fractions.specs.declared.Order.TheVariants.{Less, Equal, Greater}
+use Rattle.std.specs.declared.cmp.Ordering.{Ordering}
+use Rattle.std.specs.declared.cmp.Ordering.TheVariants.{Less, Equal, Greater}
 use Rattle.fractions.proofs.Orders.{order_equal, equal_order}
 use Rattle.line_segment.specs.declared.LineSegment.{LineSegment}
 use Rattle.line_segment.proofs.Along.{Leads}
@@ -15,13 +15,13 @@ use Rattle.sweep.specs.Ported.{is_less}
 use Rattle.sweep.proofs.Tests.{clash}
 use Rattle.sweep_geometry.proofs.Comparisons.{Said, said_less, said_equal, said_greater, say, then_equal, Orders, then_orders, number_orders}
 
-pub less_is : (o : Order) → is_less o ≡ true → o ≡ Less
+pub less_is : (o : Ordering) → is_less o ≡ true → o ≡ Less
 less_is Less e = refl
 less_is Equal e = clash e refl
 less_is Greater e = clash e refl
 
-module _ (piece : ℕ → LineSegment) (height lean : LineSegment → LineSegment → Order) where
-  abbrev pub rank : ℕ → ℕ → Order
+module _ (piece : ℕ → LineSegment) (height lean : LineSegment → LineSegment → Ordering) where
+  abbrev pub rank : ℕ → ℕ → Ordering
   rank i j = and_then (height (piece i) (piece j)) (and_then (lean (piece i) (piece j)) (order (pos i) (pos j)))
 
   pub rank_irr : ((s : LineSegment) → height s s ≡ Equal) → ((s : LineSegment) → lean s s ≡ Equal) → (i : ℕ) → is_less (rank i i) ≡ false
@@ -33,7 +33,7 @@ module _ (piece : ℕ → LineSegment) (height lean : LineSegment → LineSegmen
       pos_injective (equal_order (pos i) (pos j) (then_equal (lean (piece i) (piece j)) (order (pos i) (pos j)) h.1).1)
 
   module _ (H : Orders Leads height) (L : Orders Leads lean) where
-    numbered : {f : LineSegment → LineSegment → Order} → Orders Leads f → Orders (λ i. Leads (piece i)) (λ i j. f (piece i) (piece j))
+    numbered : {f : LineSegment → LineSegment → Ordering} → Orders Leads f → Orders (λ i. Leads (piece i)) (λ i j. f (piece i) (piece j))
     numbered F =
         record {
           turns = λ i j a b. F.turns (piece i) (piece j) a b;

@@ -9,8 +9,8 @@ use Rattle.integers.proofs.Identity.{by_ring, terms}
 use Rattle.integers.proofs.Order.{<→≢}
 use Rattle.integers.proofs.Signs.{diff-<, p*p}
 use Rattle.fractions.specs.Order.{order, turned}
-use Rattle.fractions.specs.declared.Order.{Order}
-use Rattle.fractions.specs.declared.Order.TheVariants.{Less, Equal, Greater}
+use Rattle.std.specs.declared.cmp.Ordering.{Ordering}
+use Rattle.std.specs.declared.cmp.Ordering.TheVariants.{Less, Equal, Greater}
 use Rattle.fractions.proofs.Orders.{order_less, order_equal, order_greater, order_turned}
 use Rattle.line_segment.specs.declared.LineSegment.{LineSegment}
 use Rattle.line_segment.specs.Geometry.{run, rise}
@@ -37,7 +37,7 @@ times_zero z = by_ring (z ∷ []) (search terms depth 60 fits 20000) tt
 
 -- by any number over the run, if only an upright piece's is above 0
 module _ (lean : LineSegment → ℤ) (rises : (s : LineSegment) → run s ≡ pos 0 → pos 0 <ℤ rise s → pos 0 <ℤ lean s) where
-  abbrev lean_order : LineSegment → LineSegment → Order
+  abbrev lean_order : LineSegment → LineSegment → Ordering
   lean_order a b = order (lean a *ℤ run b) (lean b *ℤ run a)
 
   module _ (a b : LineSegment) where

@@ -13,8 +13,8 @@ use Rattle.integers.proofs.Order.{<_cert, ≤_cert, Tri, less, same, more, tri, 
 use Rattle.integers.proofs.Factors.{*_cancel-≤, n/p, p*m}
 use Rattle.integers.proofs.Naturals.{pos-<}
 use Rattle.fractions.specs.Point.{point_order}
-use Rattle.fractions.specs.declared.Order.{Order}
-use Rattle.fractions.specs.declared.Order.TheVariants.{Less, Greater}
+use Rattle.std.specs.declared.cmp.Ordering.{Ordering}
+use Rattle.std.specs.declared.cmp.Ordering.TheVariants.{Less, Greater}
 use Rattle.fractions.specs.declared.Point.{Point}
 use Rattle.fractions.proofs.Points.{Places, left, below, above, right, places}
 use Rattle.fractions.proofs.Points.{same as even}
@@ -107,7 +107,7 @@ module _ (a k b : LineSegment) (la : HasLength a) (lk : HasLength k) (lb : HasLe
       middle e s (rightward hk) = squeeze_up e s hk (leads a la) (leads b lb)
       middle e s (upward ek rk) = inl (upright_on k ek rk c (standing_x k p c dp dc k_from k_upto e ek).1)
 
-      go : {o : Order} → Places p c o → o ≡ Less → Squeezed
+      go : {o : Ordering} → Places p c o → o ≡ Less → Squeezed
       go (left w) f = squeeze_west w
       go (below e s) f = middle e s (leads k lk)
       go (even e s) f = never refl f (omega arith)

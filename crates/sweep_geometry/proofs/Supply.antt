@@ -7,8 +7,8 @@ use Prim.Native.Nat.{ℕ, ◌<◌}
 use native.Mathlib.Omega.{arith}
 use lib.IntN.{pos}
 use Rattle.fractions.specs.Point.{Lowest, Bounded, point_order}
-use Rattle.fractions.specs.declared.Order.{Order}
-use Rattle.fractions.specs.declared.Order.TheVariants.{Less, Equal, Greater}
+use Rattle.std.specs.declared.cmp.Ordering.{Ordering}
+use Rattle.std.specs.declared.cmp.Ordering.TheVariants.{Less, Equal, Greater}
 use Rattle.fractions.specs.declared.Point.{Point}
 use Rattle.fractions.proofs.Points.{point_itself, point_trans, at_most_less, at_most_trans}
 use Rattle.fractions.proofs.Promises.{orders_points, lowest_terms}
@@ -153,7 +153,7 @@ module _ (n : ℕ) (piece : ℕ → LineSegment) (ok : AllProper n piece) (befor
   less_same : (p q : Point) → Occurs C p → Occurs C q → is_less (point_order p q) ≡ false → is_less (point_order q p) ≡ false → p ≡ q
   less_same p q op oq e f = go (point_order p q) refl
     where
-      go : (o : Order) → point_order p q ≡ o → p ≡ q
+      go : (o : Ordering) → point_order p q ≡ o → p ≡ q
       go Less h = absurd (let x : true ≡ false = ap is_less (sym h) ∙ e in let z : ◌≡◌ {A = ℕ} 0 1 = cc in omega arith)
       go Equal h = orders_points.one_record p q (reduced p op).0 (reduced q oq).0 h
       go Greater h = absurd (at_most p q f h)

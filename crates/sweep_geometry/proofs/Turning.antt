@@ -15,7 +15,7 @@ use Rattle.integers.proofs.Lines.{at, Between, falls, root_down}
 use Rattle.integers.proofs.Ratios.{ratio-≤-<_trans}
 use Rattle.integers.proofs.Naturals.{pos-<}
 use Rattle.fractions.specs.Point.{point_order}
-use Rattle.fractions.specs.declared.Order.TheVariants.{Less, Equal, Greater}
+use Rattle.std.specs.declared.cmp.Ordering.TheVariants.{Less, Equal, Greater}
 use Rattle.fractions.specs.declared.Point.{Point}
 use Rattle.fractions.proofs.Points.{placed, left, below, at_most_less, less_at_most, point_alike, point_alike'}
 use Rattle.line_segment.specs.declared.LineSegment.{LineSegment}

@@ -12,8 +12,8 @@ use Rattle.integers.proofs.Order.{≤_cert, ≡→≤, <→≢, ≤_antisym}
 use Rattle.integers.proofs.Factors.{*_cancel-≤, p/p, zero_product}
 use Rattle.integers.proofs.Naturals.{pos-<}
 use Rattle.fractions.specs.Point.{point_order}
-use Rattle.fractions.specs.declared.Order.{Order}
-use Rattle.fractions.specs.declared.Order.TheVariants.{Greater}
+use Rattle.std.specs.declared.cmp.Ordering.{Ordering}
+use Rattle.std.specs.declared.cmp.Ordering.TheVariants.{Greater}
 use Rattle.fractions.specs.declared.Point.{Point}
 use Rattle.fractions.proofs.Points.{Places, left, below, same, above, right, places}
 use Rattle.line_segment.specs.declared.LineSegment.{LineSegment}
@@ -24,7 +24,7 @@ use Rattle.line_segment.proofs.Along.{Leads, rightward, upward}
 x_at_most : (p q : Point) → ¬ (point_order p q ≡ Greater) → (p.x *ℤ pos q.d) ≤ℤ (q.x *ℤ pos p.d)
 x_at_most p q f = go (places p q) f
   where
-    go : {o : Order} → Places p q o → ¬ (o ≡ Greater) → (p.x *ℤ pos q.d) ≤ℤ (q.x *ℤ pos p.d)
+    go : {o : Ordering} → Places p q o → ¬ (o ≡ Greater) → (p.x *ℤ pos q.d) ≤ℤ (q.x *ℤ pos p.d)
     go (left h) f = <→≤ h
     go (below e h) f = ≡→≤ e
     go (same e h) f = ≡→≤ e

@@ -3,7 +3,7 @@
 use Rattle.std.specs.Prelude.{cond, ℕ, ℤ, pos, ◌*ℤ◌}
 use Rattle.fractions.specs.Order.{order, and_then}
 use Rattle.fractions.specs.Point.{point_order}
-use Rattle.fractions.specs.declared.Order.{Order}
+use Rattle.std.specs.declared.cmp.Ordering.{Ordering}
 use Rattle.fractions.specs.declared.Point.{Point}
 use Rattle.line_segment.specs.declared.LineSegment.{LineSegment}
 use Rattle.line_segment.specs.Piece.{point_of}
@@ -18,11 +18,11 @@ full_above s p = cond (is_upright s) p.y (height_above s p)
 unfoldable pub full_below : LineSegment → Point → ℤ
 full_below s p = cond (is_upright s) (pos p.d) (height_below s p)
 
-unfoldable pub full_height_order : Point → LineSegment → LineSegment → Order
+unfoldable pub full_height_order : Point → LineSegment → LineSegment → Ordering
 full_height_order p a b = order (full_above a p *ℤ full_below b p) (full_above b p *ℤ full_below a p)
 
 -- by height, then slope, then number
-unfoldable pub full_order : (ℕ → LineSegment) → Point → ℕ → ℕ → Order
+unfoldable pub full_order : (ℕ → LineSegment) → Point → ℕ → ℕ → Ordering
 full_order piece p i j =
     and_then (full_height_order p (piece i) (piece j))
     (and_then (slope_order (piece i) (piece j)) (order (pos i) (pos j)))

@@ -7,4 +7,4 @@ pub returns-then-list-eq10 : goal.returns-then-list-eq10
 returns-then-list-eq10 c = c.verdict_of.ensures ∙ sym (pair_list c.args.list.now c.if-list-eq10.true)
 
 pub returns-else-list-eq10 : goal.returns-else-list-eq10
-returns-else-list-eq10 c = sym (pair_nine c.args.list.now c.if-list-eq10.false)
+returns-else-list-eq10 c = rw c.at.ensures (sym (pair_nine c.args.list.now c.if-list-eq10.false))

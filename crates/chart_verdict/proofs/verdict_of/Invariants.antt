@@ -1,7 +1,7 @@
 use mathlib.Core.Path.{◌≡◌}
 use Prim.Native.Nat.{◌≤◌}
 use Rattle.charts.specs.Chart.{pieces}
-use Rattle.charts.specs.declared.Verdict.TheVariants.{Accepted}
+use Rattle.charts.specs.Verdict.{Accepted}
 use Rattle.chart_verdict.proofs.verdict_of.Given as goal
 
 abbrev pub invariant-loop-i : goal.invariant-loop-i

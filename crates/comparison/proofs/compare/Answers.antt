@@ -9,20 +9,16 @@ pub returns-then-a-eq0 : goal.returns-then-a-eq0
 returns-then-a-eq0 c = c.sign_times.ensures ∙ first_over_zero _ _ c.if-a-eq0.true
 
 pub returns-then-b-eq0 : goal.returns-then-b-eq0
-returns-then-b-eq0 c = c.turn.ensures ∙ ap turned c.sign_times-then-b-eq0.ensures ∙ second_over_zero _ _ c.if-b-eq0.true
+returns-then-b-eq0 c = c.reverse.ensures ∙ ap turned c.sign_times-then-b-eq0.ensures ∙ second_over_zero _ _ c.if-b-eq0.true
 
-pub returns-then-is_below-2 : goal.returns-then-is_below-2
-returns-then-is_below-2 c =
-    c.compare_below.ensures ∙ both_below _ _ (sym c.is_below.ensures ∙ c.if-is_below.true) (sym c.is_below-then-is_below.ensures ∙ c.if-is_below-2.true)
+pub returns-in-true-true : goal.returns-in-true-true
+returns-in-true-true c = c.compare_below.ensures ∙ both_below _ _ (sym (c.in-true-true.ensures)) (sym (c.in-true-true.ensures'))
 
-pub returns-else-is_below-2 : goal.returns-else-is_below-2
-returns-else-is_below-2 c =
-    first_below _ _ (omega arith) (omega arith) (sym c.is_below.ensures ∙ c.if-is_below.true) (sym c.is_below-then-is_below.ensures ∙ c.if-is_below-2.false)
+pub returns-in-true-false : goal.returns-in-true-false
+returns-in-true-false c = first_below _ _ (omega arith) (omega arith) (sym (c.in-true-false.ensures)) (sym (c.in-true-false.ensures'))
 
-pub returns-then-is_below-3 : goal.returns-then-is_below-3
-returns-then-is_below-3 c =
-    second_below _ _ (omega arith) (omega arith) (sym c.is_below.ensures ∙ c.if-is_below.false) (sym c.is_below-else-is_below.ensures ∙ c.if-is_below-3.true)
+pub returns-in-false-true : goal.returns-in-false-true
+returns-in-false-true c = second_below _ _ (omega arith) (omega arith) (sym (c.in-false-true.ensures)) (sym (c.in-false-true.ensures'))
 
-pub returns-else-is_below-3 : goal.returns-else-is_below-3
-returns-else-is_below-3 c =
-    c.compare_above.ensures ∙ none_below _ _ (sym c.is_below.ensures ∙ c.if-is_below.false) (sym c.is_below-else-is_below.ensures ∙ c.if-is_below-3.false)
+pub returns-in-false-false : goal.returns-in-false-false
+returns-in-false-false c = c.compare_above.ensures ∙ none_below _ _ (sym (c.in-false-false.ensures)) (sym (c.in-false-false.ensures'))

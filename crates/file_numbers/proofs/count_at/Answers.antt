@@ -1,20 +1,21 @@
 -- `count_at`: each return stands at the count that the groups and the limit lead to.
 use mathlib.Core.Path.{sym}
 use native.Mathlib.Omega.{arith}
+use Rattle.std.proofs.lemmas.Result.{err_from_is_err_and}
 use Rattle.chart_file.proofs.Numbers.{count_refused, count_many, count_few}
 use Rattle.file_numbers.proofs.count_at.Goals as goal
 
-pub returns-then-n : goal.returns-then-n
-returns-then-n c =
-    let s = c.args.file.now in
-    sym (count_many s c.in-Value.n c.in-Value.next (sym c.in-Value.ensures) (omega (arith, c.if-n.true)))
+pub returns-in_err-count : goal.returns-in_err-count
+returns-in_err-count c =
+    let p = err_from_is_err_and c.from_residual.result c.from_residual.ensures.1 in
+    rw (p.1, p.2) (sym (count_refused c.args.file.now _ (sym c.in_err-count.ensures)))
 
-pub returns-in-Fault : goal.returns-in-Fault
-returns-in-Fault c =
-    let s = c.args.file.now in
-    sym (count_refused s c.in-Fault.f (sym c.in-Fault.ensures))
+pub returns-then-count : goal.returns-then-count
+returns-then-count c =
+    let n = c.in_ok-count.count in
+    sym (count_many c.args.file.now n.value n.next (sym c.in_ok-count.ensures) (omega (arith, c.if-count.true)))
 
-pub returns-else-n : goal.returns-else-n
-returns-else-n c =
-    let s = c.args.file.now in
-    sym (count_few s c.in-Value.n c.in-Value.next (sym c.in-Value.ensures) (omega (arith, c.if-n.false)))
+pub returns : goal.returns
+returns c =
+    let n = c.in_ok-count.count in
+    sym (count_few c.args.file.now n.value n.next (sym c.in_ok-count.ensures) (omega (arith, c.if-count.false)))

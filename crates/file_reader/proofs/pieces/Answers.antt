@@ -1,100 +1,68 @@
--- `pieces`: p pieces are read into the front of the list, and c numbers of the next; each way out gives the reading there.
+-- `pieces`: p pieces are read into the front of the list; each way out gives the reading there.
 use mathlib.Core.Path.{◌≡◌, refl, sym, ap, ◌∙◌}
-use Prim.Native.Nat.{ℕ, suc, ◌+◌, ◌*◌}
+use mathlib.Core.List.{List}
+use Prim.Native.Nat.{◌+◌, ◌*◌}
 use native.Mathlib.Omega.{arith}
-use native.Mathlib.Numerals.{add-one}
-use lib.ListN.{take, length-set}
 use borrow.Author.Rules.{rules}
+use borrow.Rule.Slice.PartMut.{same_len_mid}
+use lib.IntN.{ℤ}
+use lib.ListN.{length, length-set}
 use mir.Syntax.{w32}
+use mir.Val.{to_z, of_z}
 use mir.Facts.{to_z-of_z}
-use Rattle.charts.specs.Chart.{fault_at}
-use Rattle.chart_file.specs.Reading.{kind_at, coordinate_at, due, stands_at, numbers, pieces}
-use Rattle.chart_file.specs.declared.Number.TheVariants.{Refused}
-use Rattle.chart_file.proofs.Numbers.{kind_numbered, coordinate_numbered}
-use Rattle.chart_file.proofs.Steps.{piece_short, piece_read, pieces_stay, refused_stays}
-use Rattle.chart_file.proofs.Kept.{coordinate_stands, number_stored, front_fault, left_due, left_stopped}
+use Rattle.std.proofs.lemmas.Slice.{take-put_mid}
+use Rattle.chart_file.specs.Reading.{due, pieces}
+use Rattle.chart_file.proofs.Kept.{kind_kept, kind_ends, coordinate_kept, coordinate_ends, piece_kept, piece_ends}
 use Rattle.file_reader.proofs.pieces.Goals as goal
 
-pub file-init : goal.file-init
+pub loop-p-init : goal.loop-p-init
 unfolding pieces
-file-init c = (omega arith, refl, c.requires.1, refl)
+loop-p-init c = (c.requires.1, refl)
 
-pub loop-c-init : goal.loop-c-init
-unfolding numbers stands_at
-loop-c-init c =
-    let s = c.args.file.now in (
-      omega arith,
-      omega arith,
-      c.file.invariant.1,
-      length-set c.file.list _ _ ∙ c.file.invariant.2,
-      number_stored s 0 (pieces s c.args.next c.file.p) c.file.list (5 * c.file.p) c.file.at c.in-Read.v _ c.in-Read.next 1 _ c.file.invariant.3 (sym c.in-Read.ensures) (to_z-of_z {w = w32} (search rules)) (omega arith) refl (add-one _),
+pub loop-coordinate-init : goal.loop-coordinate-init
+loop-coordinate-init c =
+    let p = c.loop-p in
+    (refl, kind_kept c.args.file.now c.args.next c.args.count p.p p.list p.at p.invariant.0 (omega arith) p.invariant.1 c.in-Ok.found.value c.in-Ok.found.next c.in-Ok.ensures)
+
+pub loop-coordinate-preserved : goal.loop-coordinate-preserved
+loop-coordinate-preserved c =
+    let p = c.loop-p in
+    let q = c.loop-coordinate in
+    let f = c.in-Ok-coordinate_at.found in
+    let stored : to_z w32 (of_z w32 f.value) ≡ f.value = to_z-of_z {w = w32} (search rules) in (
+      length-set q.coordinate-items _ _ ∙ q.invariant.0,
+      rw stored (coordinate_kept c.args.file.now c.args.next c.args.count p.p p.list p.at p.invariant.0 (omega arith) p.invariant.1 c.in-Ok.found.value q.coordinate-items q.coordinate-index q.at q.invariant.1 f.value f.next c.in-Ok-coordinate_at.ensures (omega arith)),
     )
 
-pub loop-c-preserved : goal.loop-c-preserved
-loop-c-preserved c =
-    let s = c.args.file.now in
-    let i = c.loop-c.invariant in (
-      omega arith,
-      omega arith,
-      i.2,
-      length-set c.loop-c.list _ _ ∙ i.3,
-      number_stored s c.loop-c.c (pieces s c.args.next c.file.p) c.loop-c.list (5 * c.file.p + c.loop-c.c) c.loop-c.at c.in-Read-coordinate_at.v _ c.in-Read-coordinate_at.next (c.loop-c.c + 1) (5 * c.file.p + (c.loop-c.c + 1)) i.4
-          (coordinate_stands s c.loop-c.c c.loop-c.at i.0 ∙ sym c.in-Read-coordinate_at.ensures) (to_z-of_z {w = w32} (search rules)) (omega arith) (add-one c.loop-c.c) (omega arith),
+pub loop-p-preserved : goal.loop-p-preserved
+loop-p-preserved c =
+    let p = c.loop-p in
+    let q = c.loop-coordinate in
+    let new = c.copy_from_slice in
+    let five = new.ensures.after in (
+      same_len_mid _ _ _ _ new.ensures.len ∙ p.invariant.0,
+      piece_kept c.args.file.now c.args.next c.args.count p.p p.list p.at p.invariant.0 (omega arith) p.invariant.1 c.in-Ok.found.value q.coordinate-items q.coordinate-index q.at q.invariant.1 (omega arith) c.loop-coordinate-test.array_long c.requires.0 c.fault_of.result _ _ _ _ _
+          (record { kind = to_z-of_z {w = w32} (search rules); first_x = to_z-of_z {w = w32} (search rules); first_y = to_z-of_z {w = w32} (search rules); second_x = to_z-of_z {w = w32} (search rules); second_y = to_z-of_z {w = w32} (search rules) })
+          c.fault_of.ensures (sym c.is_some.ensures ∙ c.if-is_some.false) new.new.self five
+          ∙ ap (λ (t : List ℤ). due t q.at) (sym (take-put_mid (5 * p.p) _ p.list new.new.self (5 * (p.p + 1)) (omega (arith, ap length five)) (omega arith))),
     )
 
-pub file-preserved : goal.file-preserved
-file-preserved c =
-    let s = c.args.file.now in
-    let p = c.file.p in
-    let i = c.loop-c.invariant in
-    let xs = take (5 * p) c.file.list in
-    let ys = take (5 * p + c.loop-c.c) c.loop-c.list in
-    -- the fault asked for is that of the piece just read
-    let there : fault_at ys p ≡ c.fault_at.result = front_fault c.loop-c.list p (5 * p + c.loop-c.c) (omega arith) ∙ sym c.fault_at.ensures in
-    let five : 5 ≡ c.loop-c.c = omega arith in
-    let e : pieces s c.args.next (suc p) ≡ due ys c.loop-c.at = piece_read s c.args.next p xs c.file.at c.file.invariant.3 ys c.loop-c.at (ap (λ (k : ℕ). numbers s k (pieces s c.args.next p)) five ∙ i.4) (there ∙ c.if-fault_at-ne0.false) in
-    let n : 5 * (p + 1) ≡ 5 * p + c.loop-c.c = omega arith in
-    (omega arith, i.2, i.3, rw (n, add-one p) e)
+pub returns-in-Err : goal.returns-in-Err
+returns-in-Err c =
+    let p = c.loop-p in
+    kind_ends c.args.file.now c.args.next c.args.count p.p p.list p.at p.invariant.0 (omega arith) p.invariant.1 c.in-Err.reason c.at.result c.in-Err.ensures c.at.ensures
 
-pub returns-after-file : goal.returns-after-file
-returns-after-file c =
-    let e : c.file.p ≡ c.args.count = omega arith in
-    left_due c.args.count (pieces c.args.file.now c.args.next c.args.count) c.file.list c.file.p c.file.at c.file.fault (rw (← e) c.file.invariant.3) e c.file.invariant.2 c.file.invariant.1
+pub returns-in-Err-coordinate_at : goal.returns-in-Err-coordinate_at
+returns-in-Err-coordinate_at c =
+    let p = c.loop-p in
+    let q = c.loop-coordinate in
+    let e = c.in-Err-coordinate_at in
+    coordinate_ends c.args.file.now c.args.next c.args.count p.p p.list p.at p.invariant.0 (omega arith) p.invariant.1 c.in-Ok.found.value q.coordinate-items q.coordinate-index q.at q.invariant.1 e.reason c.at-in-Err-coordinate_at.result e.ensures (omega arith) c.at-in-Err-coordinate_at.ensures
 
-pub returns-in-Refused : goal.returns-in-Refused
-unfolding numbers stands_at
-returns-in-Refused c =
-    let s = c.args.file.now in
-    let e : kind_at s c.file.at ≡ Refused c.in-Refused.f = sym c.in-Refused.ensures in
-    left_stopped c.args.count (pieces s c.args.next c.args.count) c.file.list c.in-Refused.f c.file.at
-    (refused_stays s c.args.next c.file.p c.args.count 0 c.in-Refused.f c.file.at (take (5 * c.file.p) c.file.list) c.file.at (take (5 * c.file.p) c.file.list) c.file.invariant.3 c.file.invariant.3 e (omega arith) (omega arith))
-    (kind_numbered s c.file.at c.in-Refused.f e)
-    c.file.invariant.2
-
-pub returns-in-Refused-coordinate_at : goal.returns-in-Refused-coordinate_at
-returns-in-Refused-coordinate_at c =
-    let s = c.args.file.now in
-    let i = c.loop-c.invariant in
-    let e : coordinate_at s c.loop-c.at ≡ Refused c.in-Refused-coordinate_at.f = sym c.in-Refused-coordinate_at.ensures in
-    left_stopped c.args.count (pieces s c.args.next c.args.count) c.loop-c.list c.in-Refused-coordinate_at.f c.loop-c.at
-    (refused_stays s c.args.next c.file.p c.args.count c.loop-c.c c.in-Refused-coordinate_at.f c.file.at (take (5 * c.file.p) c.file.list) c.loop-c.at (take (5 * c.file.p + c.loop-c.c) c.loop-c.list) c.file.invariant.3 i.4 (coordinate_stands s c.loop-c.c c.loop-c.at i.0 ∙ e) (omega arith) (omega arith))
-    (coordinate_numbered s c.loop-c.at c.in-Refused-coordinate_at.f e)
-    i.3
-
-pub returns-then-fault_at-ne0 : goal.returns-then-fault_at-ne0
-returns-then-fault_at-ne0 c =
-    let s = c.args.file.now in
-    let p = c.file.p in
-    let i = c.loop-c.invariant in
-    let xs = take (5 * p) c.file.list in
-    let ys = take (5 * p + c.loop-c.c) c.loop-c.list in
-    -- the fault asked for is that of the piece just read
-    let there : fault_at ys p ≡ c.fault_at.result = front_fault c.loop-c.list p (5 * p + c.loop-c.c) (omega arith) ∙ sym c.fault_at.ensures in
-    let five : 5 ≡ c.loop-c.c = omega arith in
-    left_stopped c.args.count (pieces s c.args.next c.args.count) c.loop-c.list 6 c.file.at
-    (pieces_stay s c.args.next (suc p) c.args.count 6 c.file.at (piece_short s c.args.next p xs c.file.at c.file.invariant.3 ys c.loop-c.at (ap (λ (k : ℕ). numbers s k (pieces s c.args.next p)) five ∙ i.4) (λ z. c.if-fault_at-ne0.true (sym there ∙ z))) (omega arith))
-    (omega arith)
-    i.3
-
-pub fault_at-requires : goal.fault_at-requires
-fault_at-requires c = (omega arith, c.loop-c.invariant.3)
+pub returns-then-is_some : goal.returns-then-is_some
+returns-then-is_some c =
+    let p = c.loop-p in
+    let q = c.loop-coordinate in
+    piece_ends c.args.file.now c.args.next c.args.count p.p p.list p.at p.invariant.0 (omega arith) p.invariant.1 c.in-Ok.found.value q.coordinate-items q.coordinate-index q.at q.invariant.1 (omega arith) c.loop-coordinate-test.array_long c.requires.0 c.fault_of.result _ _ _ _ _
+    (record { kind = to_z-of_z {w = w32} (search rules); first_x = to_z-of_z {w = w32} (search rules); first_y = to_z-of_z {w = w32} (search rules); second_x = to_z-of_z {w = w32} (search rules); second_y = to_z-of_z {w = w32} (search rules) })
+    c.fault_of.ensures (sym c.is_some.ensures ∙ c.if-is_some.true) c.at-then-is_some.result c.at-then-is_some.ensures

@@ -7,7 +7,7 @@ use lib.IntN.{ℤ}
 use lib.ListN.{length, length-append}
 use lib.Seq.{sets, length-sets}
 use Rattle.chart_file.specs.Format.{bytes_from, count_of}
-use Rattle.chart_writer.proofs.Outcomes.{accepted_fives, Goes, goes, writes_refused, writes_done}
+use Rattle.chart_writer.proofs.Outcomes.{Goes, goes, writes_refused, writes_done}
 use Rattle.file_writer.proofs.write.Goals as goal
 
 -- two runs of stores leave the length as it was
@@ -20,31 +20,31 @@ room list lent n g = omega (arith, g.fits, ap length g.file, length-append (coun
 
 pub overflow_cast-n : goal.overflow_cast-n
 overflow_cast-n c =
-    let g = goes c.args.list.now c.args.out.now c.in-Accepted.n (sym c.writing_of.ensures ∙ c.in-Accepted.is) in
+    let g = goes c.args.list.now c.args.out.now c.in-Ok.n (sym c.in-Ok.ensures) in
     record { fits = omega (arith, g.small) }
 
 pub put_groups-next-requires : goal.put_groups-next-requires
 put_groups-next-requires c =
-    let g = goes c.args.list.now c.args.out.now c.in-Accepted.n (sym c.writing_of.ensures ∙ c.in-Accepted.is) in
+    let g = goes c.args.list.now c.args.out.now c.in-Ok.n (sym c.in-Ok.ensures) in
     (g.small, omega (arith, room _ _ _ g))
 
-pub put_pieces-requires : goal.put_pieces-requires
-put_pieces-requires c =
+pub put_numbers-requires : goal.put_numbers-requires
+put_numbers-requires c =
     let a = c.args in
-    let g = goes c.args.list.now c.args.out.now c.in-Accepted.n (sym c.writing_of.ensures ∙ c.in-Accepted.is) in
-    (accepted_fives a.list.now _ g.accepted, g.ranges, omega (arith, c.put_groups-next.ensures.0, room _ _ _ g, ap length c.put_groups-next.ensures.1, length-sets a.out.now 0 (count_of c.in-Accepted.n)))
+    let g = goes c.args.list.now c.args.out.now c.in-Ok.n (sym c.in-Ok.ensures) in
+    (g.ranges, omega (arith, c.put_groups-next.ensures.0, room _ _ _ g, ap length c.put_groups-next.ensures.1, length-sets a.out.now 0 (count_of c.in-Ok.n)))
 
-pub returns-in-Refused : goal.returns-in-Refused
-returns-in-Refused c =
+pub returns-in-Err : goal.returns-in-Err
+returns-in-Err c =
     let s = c.args in
-    writes_refused s.list.now s.out.now c.refused.result _ _ (sym c.writing_of.ensures ∙ c.in-Refused.is) c.refused.ensures
+    writes_refused s.list.now s.out.now c.refused.result _ _ (sym c.in-Err.ensures) c.refused.ensures
 
 pub shape_of-out : goal.shape_of-out
 shape_of-out c =
     let s = c.args in
-    same_long s.out.now _ _ 0 (count_of c.in-Accepted.n) c.put_groups-next.result (bytes_from 0 s.list.now) c.put_groups-next.ensures.1 c.put_pieces.ensures.1
+    same_long s.out.now _ _ 0 (count_of c.in-Ok.n) c.put_groups-next.result (bytes_from 0 s.list.now) c.put_groups-next.ensures.1 c.put_numbers.ensures.1
 
-pub returns-in-Accepted : goal.returns-in-Accepted
-returns-in-Accepted c =
+pub returns-in-Ok : goal.returns-in-Ok
+returns-in-Ok c =
     let s = c.args in
-    writes_done s.list.now s.out.now c.done.result _ _ _ _ _ (sym c.writing_of.ensures ∙ c.in-Accepted.is) c.done.ensures c.put_groups-next.ensures.0 c.put_groups-next.ensures.1 c.put_pieces.ensures.0 c.put_pieces.ensures.1
+    writes_done s.list.now s.out.now c.done.result _ _ _ _ _ (sym c.in-Ok.ensures) c.done.ensures c.put_groups-next.ensures.0 c.put_groups-next.ensures.1 c.put_numbers.ensures.0 c.put_numbers.ensures.1

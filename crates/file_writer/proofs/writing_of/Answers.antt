@@ -1,31 +1,26 @@
 -- `writing_of`: the verdict on the list, then the room for the longest file.
-use mathlib.Core.Path.{◌≡◌, sym, ◌∙◌}
-use Rattle.charts.specs.Chart.{verdict_of}
-use Rattle.charts.specs.declared.Verdict.TheVariants.{Accepted}
+use mathlib.Core.Path.{sym}
+use Rattle.std.proofs.lemmas.Result.{err_from_is_err_and}
 use Rattle.charts.proofs.Lent.{room_refused, room_eight, room_accepted}
 use Rattle.chart_file.specs.Format.{longest}
 use Rattle.chart_writer.specs.Writing.{writing_of}
 use Rattle.file_writer.proofs.writing_of.Goals as goal
-use Rattle.file_writer.proofs.writing_of.Goals.{In-Accepted}
 
--- the list is accepted, in the arm that says so
-accepted : (c : In-Accepted) → verdict_of c.args.list.now ≡ Accepted c.in-Accepted.n
-accepted c = sym c.verdict_of.ensures ∙ c.in-Accepted.is
-
-pub returns-in-Refused : goal.returns-in-Refused
+pub returns-in_err-n : goal.returns-in_err-n
 unfolding writing_of
-returns-in-Refused c =
+returns-in_err-n c =
     let s = c.args in
-    sym (room_refused s.list.now (λ n. longest) s.lent _ _ (sym c.verdict_of.ensures ∙ c.in-Refused.is))
+    let p = err_from_is_err_and c.from_residual.result c.from_residual.ensures.1 in
+    rw (p.1, p.2) (sym (room_refused s.list.now (λ n. longest) s.lent _ _ (sym c.in_err-n.ensures)))
 
 pub returns-then-lent-lt-LONGEST : goal.returns-then-lent-lt-LONGEST
 unfolding writing_of
 returns-then-lent-lt-LONGEST c =
     let s = c.args in
-    sym (room_eight s.list.now (λ n. longest) s.lent _ (accepted c.before) c.if-lent-lt-LONGEST.true)
+    rw c.at.ensures (sym (room_eight s.list.now (λ n. longest) s.lent _ (sym c.in_ok-n.ensures) c.if-lent-lt-LONGEST.true))
 
-pub returns-else-lent-lt-LONGEST : goal.returns-else-lent-lt-LONGEST
+pub returns : goal.returns
 unfolding writing_of
-returns-else-lent-lt-LONGEST c =
+returns c =
     let s = c.args in
-    sym (room_accepted s.list.now (λ n. longest) s.lent _ (accepted c.before) c.if-lent-lt-LONGEST.false)
+    sym (room_accepted s.list.now (λ n. longest) s.lent _ (sym c.in_ok-n.ensures) c.if-lent-lt-LONGEST.false)

@@ -1,30 +1,28 @@
--- `full_block::widen_up` meets its contract: up to k all are through the point.
-use mathlib.Core.Path.{sym, ◌∙◌}
+-- `full_block::widen_up` meets its contract: as many from `from` on are through the point.
+use mathlib.Core.Path.{◌≡◌, ◌∙◌}
+use mathlib.Core.List.{List}
+use Prim.Native.Nat.{ℕ}
 use native.Mathlib.Omega.{arith}
+use borrow.Author.Rules.{rules}
+use borrow.Author.Tests.{tests}
+use Rattle.std.specs.List.{prefix_len, between}
+use Rattle.std.proofs.lemmas.Iterator.{YieldsList-from_slice}
+use Rattle.std.proofs.lemmas.Iterator.Consumers.{YieldsList-at, count_from_yields_List}
+use Rattle.std.proofs.lemmas.Iterator.Search.{YieldsList-from_take_while}
+use Rattle.std.proofs.lemmas.List.Folds.{length-prefix_len}
 use Rattle.full_active.specs.Parts.{through_in}
-use Rattle.full_active.proofs.Places.{all_none, one_above}
+use Rattle.full_active.proofs.Reached.{up_from}
 use Rattle.full_block.proofs.widen_up.Goals as goal
 
-pub loop-k-init : goal.loop-k-init
-loop-k-init c =
+pub returns : goal.returns
+returns c =
+    λ q m.
     let s = c.args in
-    (omega arith, omega arith, λ q m. all_none (through_in s.table.now q) s.active.now s.from)
-
-pub loop-k-preserved : goal.loop-k-preserved
-loop-k-preserved c =
-    let s = c.args in (
-      omega arith,
-      omega arith,
-      λ q m.
-          one_above (through_in s.table.now q) s.active.now s.from c.loop-k.k (sym (c.is_through.ensures q m) ∙ c.if-not-is_through.false) (c.loop-k.invariant.2 q m),
-    )
-
-pub returns-after-loop-k : goal.returns-after-loop-k
-returns-after-loop-k c =
-    λ q m.
-    record { begun = c.loop-k.invariant.0; within = c.loop-k.invariant.1; all_in = c.loop-k.invariant.2 q m; first_out = λ h. absurd (omega arith) }
-
-pub returns-then-not-is_through : goal.returns-then-not-is_through
-returns-then-not-is_through c =
-    λ q m.
-    record { begun = c.loop-k.invariant.0; within = c.loop-k.invariant.1; all_in = c.loop-k.invariant.2 q m; first_out = λ h. sym (c.is_through.ensures q m) ∙ c.if-not-is_through.true }
+    let through = through_in s.table.now q in
+    let behind : List ℕ = between s.from s.live s.active.now in
+    let n : c.count.result ≡ prefix_len through behind =
+    count_from_yields_List c.take_while.result c.count.result c.count.ensures.ran
+    (YieldsList-from_take_while _ through (YieldsList-at c.take_while.ensures.source (YieldsList-from_slice behind (cc)))
+    c.take_while.ensures.closure c.take_while.ensures.done (λ x b f k. search (rules, tests)))
+    ∙ length-prefix_len through behind in
+    up_from through s.active.now s.live s.from c.count.result (omega arith) (omega arith) n

@@ -8,6 +8,7 @@ use Rattle.integers.proofs.Machine.{steps, m_small, m_bound}
 use Rattle.integers.proofs.Sizes.{small_of}
 use Rattle.integers.proofs.Tests.{ranged, m_yes, m_no}
 use mathlib.Core.Path.{sym, ◌∙◌}
+use Rattle.fractions.specs.Order.{order}
 use Rattle.fractions.proofs.Orders.{order_less, order_greater}
 use Rattle.line_segment.specs.Geometry.{run, rise}
 use Rattle.full_points.proofs.Sides.{aside_parts, near_is, far_above, far_below}
@@ -37,8 +38,9 @@ near_side-requires c =
     (m_bound (search (steps, m_small) depth 60 fits 20000) tt, omega arith, omega arith, omega arith)
 
 pub returns : goal.returns
+unfolding order
 returns c q k =
     let a = c.args in
     let h = c.requires in
-    c.sign.ensures
+    c.cmp.ensures
     ∙ near_is a.s a.p q (omega (arith, h.rest_x)) k (to_z-of_z w64 _ (search rules)) c.near_side.ensures (to_z-of_z w64 _ (search rules)) c.whole_side-f.ensures

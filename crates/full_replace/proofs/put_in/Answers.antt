@@ -15,9 +15,9 @@ returns c =
     record {
       count = omega (arith, P.inside);
       pieces_are =
-          ap (λ (l : List ℕ). take (a.live + 1) (set l a.lo a.i)) c.shift_up.ensures.0
+          ap (λ (l : List ℕ). take (a.live + 1) (set l a.lo a.i)) c.shift.ensures.0
           ∙ put_one a.active.now a.live a.lo a.i P.inside (omega (arith, P.inside, P.fits));
       lanes_are =
-          ap (λ (l : List ℕ). take (a.live + 1) (set l a.lo no_key)) c.shift_up.ensures.1
+          ap (λ (l : List ℕ). take (a.live + 1) (set l a.lo no_key)) c.shift.ensures.1
           ∙ put_one a.lanes.now a.live a.lo no_key P.inside (omega (arith, P.inside, P.fits, P.alike));
     }

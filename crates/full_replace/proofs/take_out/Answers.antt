@@ -12,6 +12,6 @@ returns c =
     let P = c.requires in
     record {
       count = omega (arith, P.inside);
-      pieces_are = ap (take (a.live - 1)) c.shift_down.ensures.0 ∙ one_out a.active.now a.live a.lo (omega (arith, P.inside)) P.within;
-      lanes_are = ap (take (a.live - 1)) c.shift_down.ensures.1 ∙ one_out a.lanes.now a.live a.lo (omega (arith, P.inside)) (omega (arith, P.within, P.alike));
+      pieces_are = ap (take (a.live - 1)) c.shift.ensures.0 ∙ one_out a.active.now a.live a.lo (omega (arith, P.inside)) P.within;
+      lanes_are = ap (take (a.live - 1)) c.shift.ensures.1 ∙ one_out a.lanes.now a.live a.lo (omega (arith, P.inside)) (omega (arith, P.within, P.alike));
     }

@@ -7,15 +7,15 @@ use Rattle.full_sweep.proofs.sweep.Goals as goal
 
 pub sweep_pieces-requires : goal.sweep_pieces-requires
 sweep_pieces-requires c =
-    listing_goes c.args.list.now (length c.args.pairs.now) _ (sym c.listing_of.ensures ∙ c.in-Accepted.is)
+    listing_goes c.args.list.now (length c.args.pairs.now) _ (sym c.in-Ok.ensures)
 
-pub returns-in-Refused : goal.returns-in-Refused
-returns-in-Refused c =
-    let t = refused_outcome c.args.list.now c.args.budget c.args.pairs.now _ _ (sym c.listing_of.ensures ∙ c.in-Refused.is) in
+pub returns-in-Err : goal.returns-in-Err
+returns-in-Err c =
+    let t = refused_outcome c.args.list.now c.args.budget c.args.pairs.now _ _ (sym c.in-Err.ensures) in
     (c.refused.ensures ∙ t.0, t.1)
 
-pub returns-in-Accepted : goal.returns-in-Accepted
-returns-in-Accepted c =
-    let t = done_outcome c.args.list.now c.args.budget c.args.pairs.now _ (sym c.listing_of.ensures ∙ c.in-Accepted.is) in
+pub returns-in-Ok : goal.returns-in-Ok
+returns-in-Ok c =
+    let t = done_outcome c.args.list.now c.args.budget c.args.pairs.now _ (sym c.in-Ok.ensures) in
     let r = c.sweep_pieces.ensures in
     (r.0 ∙ t.0, r.1 ∙ t.1)

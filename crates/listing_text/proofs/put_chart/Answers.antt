@@ -8,7 +8,7 @@ use lib.ListN.{length}
 use lib.Seq.{length-take-le}
 use Rattle.charts.specs.Answer.{room}
 use Rattle.charts.specs.Chart.{most, verdict_of}
-use Rattle.charts.specs.declared.Verdict.TheVariants.{Accepted}
+use Rattle.charts.specs.Verdict.{Accepted}
 use Rattle.decimals.specs.Text.{ascii}
 use Rattle.decimals.proofs.Puts.{put_then, put_as}
 use Rattle.listing.specs.Listing.{chart_lines}

@@ -9,7 +9,7 @@ pub returns-then-text-lt-LONGEST : goal.returns-then-text-lt-LONGEST
 returns-then-text-lt-LONGEST c =
     let s = c.args in
     let t = too_little s.file.now s.text.now c.if-text-lt-LONGEST.true in
-    (c.refused.ensures ∙ t.0, t.1)
+    ((rw c.at.ensures at c.refused.ensures) ∙ t.0, t.1)
 
 pub returns : goal.returns
 returns c =

@@ -9,15 +9,29 @@ use lib.ListN.{get_or}
 use lib.IntN.{pos}
 use mir.Syntax.{w32}
 use Prim.Native.Nat.{ℕ, ◌*◌, ◌+◌}
-use mathlib.Core.Path.{◌≡◌, refl, ap}
+use borrow.Author.Tests.{ne_eqb}
+use mathlib.Core.Path.{◌≡◌, refl, sym, ap, ◌∙◌}
+use Rattle.std.specs.Prelude.{Option, Some, None}
+use Rattle.std.specs.Option.{is_some}
+use mathlib.Core.Bool.{Bool, true, false, not}
+use Rattle.charts.specs.declared.Reason.{Reason}
+use Rattle.charts.specs.Refusal.{number, fault_number}
+use Rattle.charts.proofs.Refusals.{numbered}
 use Rattle.open_changes.proofs.is_used.Goals as goal
+
+-- no fault is the number 0
+none_zero : (o : Option Reason) (r : Bool) → is_some o ≡ not r → r ≡ eqb (fault_number o) 0
+none_zero None true e = refl
+none_zero None false e = e
+none_zero (Some reason) true e = e ∙ sym (ne_eqb (number reason) 0 (numbered reason))
+none_zero (Some reason) false e = sym (ne_eqb (number reason) 0 (numbered reason))
 
 pub returns : goal.returns
 unfolding is_used
 returns c =
     let chart = c.args.chart.now in
     let at = 5 * c.args.i in
-    let e : c.fault_of.result ≡ fault_at chart c.args.i =
+    let e : fault_number c.fault_of.result ≡ fault_at chart c.args.i =
     rw (
       c.fault_of.ensures,
       told w32 (get_or chart at (pos 0)) (search rules) refl,
@@ -27,4 +41,4 @@ returns c =
       told w32 (get_or chart (at + 4) (pos 0)) (search rules) refl,
     )
     (fault_here chart c.args.i) in
-    ap (λ (k : ℕ). eqb k 0) e
+    none_zero c.fault_of.result c.is_none.result c.is_none.ensures ∙ ap (λ (k : ℕ). eqb k 0) e

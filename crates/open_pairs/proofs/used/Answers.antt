@@ -5,7 +5,7 @@ use mathlib.Core.Path.{ap, ◌∙◌}
 use Rattle.open_pairs.proofs.used.Goals as goal
 
 pub returns-then-chart-lt-NUMBERS : goal.returns-then-chart-lt-NUMBERS
-returns-then-chart-lt-NUMBERS c = c.refused.ensures ∙ used_small c.args.chart.now c.if-chart-lt-NUMBERS.true
+returns-then-chart-lt-NUMBERS c = (rw c.at.ensures at c.refused.ensures) ∙ used_small c.args.chart.now c.if-chart-lt-NUMBERS.true
 
 pub returns : goal.returns
 returns c =

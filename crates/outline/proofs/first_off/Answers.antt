@@ -1,24 +1,13 @@
--- `outline::first_off` meets its contract: no corner below i is out of range.
-use borrow.Author.Rules.{rules}
-use mathlib.Core.Path.{◌≡◌, sym, ◌∙◌}
-use native.Mathlib.Numerals.{add-one}
-use native.Mathlib.Omega.{arith}
+-- `outline::first_off` meets its contract: `find` gives the first corner out of range, where there is one.
+use Rattle.std.proofs.Common.{◌≡◌, true, false, ◌∙◌, rules, tests}
+use Rattle.std.proofs.lemmas.Iterator.{first_from_Range}
 use Rattle.outline.specs.Outline.{off_at}
-use Rattle.outline.proofs.First.{found, none, more}
+use Rattle.outline.proofs.First.{find_or}
 use Rattle.outline.proofs.first_off.Goals as goal
-
-pub loop-i-init : goal.loop-i-init
-loop-i-init c = (search rules, λ j h. absurd (omega arith))
-
-pub returns-then-is_off : goal.returns-then-is_off
-returns-then-is_off c =
-    sym (found (off_at c.args.outline.now) c.loop-i.i c.args.n (omega arith) c.loop-i.invariant.1 (sym c.is_off.ensures ∙ c.if-is_off.true))
-
-pub loop-i-preserved : goal.loop-i-preserved
-loop-i-preserved c =
-    (omega arith, rw add-one (more (off_at c.args.outline.now) c.loop-i.i c.loop-i.invariant.1 (sym c.is_off.ensures ∙ c.if-is_off.false)))
 
 pub returns : goal.returns
 returns c =
-    let e : c.loop-i.i ≡ c.args.n = omega arith in
-    sym (none (off_at c.args.outline.now) c.args.n (rw e at c.loop-i.invariant.1))
+    let f = off_at c.args.outline.now in
+    c.unwrap_or.ensures
+    ∙ find_or f c.args.n c.find.result
+    (first_from_Range _ _ _ c.find.result (λ i. f i ≡ true) (λ i. f i ≡ false) c.find.ensures.ran (λ x q k. search (rules, tests)) (λ x q k. search (rules, tests)))

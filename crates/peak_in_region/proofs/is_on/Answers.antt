@@ -1,48 +1,50 @@
--- `peak_in_region::is_on` meets its contract: no side below i has the peak.
-use borrow.Author.Rules.{rules}
-use mathlib.Core.Path.{◌≡◌, sym, ap₂, ◌∙◌}
-use mathlib.Core.Bool.{Bool}
-use mathlib.Core.List.{List}
-use Prim.Native.Nat.{ℕ}
-use lib.IntN.{ℤ}
-use native.Mathlib.Numerals.{add-one}
-use native.Mathlib.Omega.{arith}
+-- `peak_in_region::is_on` meets its contract: `any` says whether one of the sides has the peak.
+use mathlib.Core.Path.{◌≡◌, sym, ap, ap₂, ◌∙◌}
+use mathlib.Core.Bool.{Bool, true, false}
 use mir.Syntax.{w16}
 use mir.Val.{SFits}
 use mir.Facts.{to_z-of_z}
 use Rattle.fractions.specs.Point.{whole_of}
-use Rattle.fractions.specs.declared.Point.{Point}
-use Rattle.line_segment.specs.declared.LineSegment.{LineSegment}
-use Rattle.half_line.specs.declared.Corner.{Corner}
-use Rattle.outline.specs.Outline.{side_of}
-use Rattle.line_segment.specs.Segment.{contains_of}
+use Prim.Native.Nat.{ℕ, ◌<◌}
+use native.Mathlib.Omega.{arith}
+use borrow.Author.Tests.{lt-ltb}
+use lib.Dec.{ltb}
+use lib.ListN.{length}
+use Rattle.std.proofs.Common.{MatchBool, zero-add, rules, tests}
+use Rattle.std.specs.List.{HoldsAt, AllWithin, range_with_len}
+use Rattle.std.proofs.lemmas.Iterator.{cases_from_any, YieldsList-from_range}
+use Rattle.std.proofs.lemmas.List.FromFn.{length-range_with_len, get_or-range_with_len}
+use Rattle.outline.specs.Counting.{first}
 use Rattle.region.specs.Region.{on_side}
-use Rattle.outline.proofs.First.{more}
-use Rattle.region.proofs.Sides.{some_yes, some_no}
+use Rattle.outline.proofs.First.{Finds, at, nowhere, finds}
+use Rattle.region.proofs.Sides.{some_no}
 use Rattle.peak_in_region.proofs.is_on.Goals as goal
 
-pub loop-i-init : goal.loop-i-init
-loop-i-init c = (search rules, λ j h. absurd (omega arith))
+-- a yes below n
+some_below : (f : ℕ → Bool) (n k : ℕ) → k < n → f k ≡ true → true ≡ ltb (first f n) n
+some_below f n k h e = go (first f n) (finds f n)
+  where
+    go : (m : ℕ) → Finds f n m → true ≡ ltb m n
+    go m (at i l b q) = sym (lt-ltb i n l)
+    go m (nowhere b) = let z : true ≡ false = sym e ∙ b k h in cc
 
--- what the three calls say together
-said : (outline : List ℤ) (n i : ℕ) (p : Corner) {r : Bool} {s : LineSegment} {q : Point}
-    → r ≡ contains_of s q → s ≡ side_of outline n i → q ≡ whole_of p.x p.y → on_side outline n p i ≡ r
-unfolding on_side
-said outline n i p e d w = sym (e ∙ ap₂ contains_of d w)
-
-pub returns-then-contains : goal.returns-then-contains
-returns-then-contains c =
-    let f : SFits w16 c.args.p.x = search rules in
-    let g : SFits w16 c.args.p.y = search rules in
-    some_yes (on_side c.args.outline.now c.args.n c.args.p) c.loop-i.i c.args.n (omega arith) c.loop-i.invariant.1 (said c.args.outline.now c.args.n c.loop-i.i c.args.p c.contains.ensures c.side_of.ensures (c.whole.ensures ∙ ap₂ whole_of (to_z-of_z f) (to_z-of_z g)) ∙ c.if-contains.true)
-
-pub loop-i-preserved : goal.loop-i-preserved
-loop-i-preserved c =
-    let f : SFits w16 c.args.p.x = search rules in
-    let g : SFits w16 c.args.p.y = search rules in
-    (omega arith, rw add-one (more (on_side c.args.outline.now c.args.n c.args.p) c.loop-i.i c.loop-i.invariant.1 (said c.args.outline.now c.args.n c.loop-i.i c.args.p c.contains.ensures c.side_of.ensures (c.whole.ensures ∙ ap₂ whole_of (to_z-of_z f) (to_z-of_z g)) ∙ c.if-contains.false)))
+-- one of the numbers below n is a yes, or none is
+asked : (f : ℕ → Bool) (n : ℕ) (r : Bool)
+    → MatchBool r ((k : ℕ) × (k < length (range_with_len 0 n)) × HoldsAt (λ i. f i ≡ true) (range_with_len 0 n) k) (AllWithin (λ i. f i ≡ false) (range_with_len 0 n) 0 (length (range_with_len 0 n)))
+    → r ≡ ltb (first f n) n
+asked f n true h =
+    let l : h.0 < n = omega (arith, length-range_with_len 0 n) in
+    some_below f n h.0 l (sym (ap f (get_or-range_with_len 0 n h.0 0 l ∙ zero-add h.0)) ∙ h.2 0)
+asked f n false h =
+    some_no f n (λ k l. sym (ap f (get_or-range_with_len 0 n k 0 l ∙ zero-add k)) ∙ h k 0 (omega arith) (omega (arith, length-range_with_len 0 n)))
 
 pub returns : goal.returns
+unfolding on_side
 returns c =
-    let e : c.loop-i.i ≡ c.args.n = omega arith in
-    some_no (on_side c.args.outline.now c.args.n c.args.p) c.args.n (rw e at c.loop-i.invariant.1)
+    let s = c.args in
+    let n = s.n in
+    let f = on_side s.outline.now n s.p in
+    let x : SFits w16 s.p.x = search rules in
+    let y : SFits w16 s.p.y = search rules in
+    let w = c.whole-peak.ensures ∙ ap₂ whole_of (to_z-of_z x) (to_z-of_z y) in
+    asked f n c.any.result (cases_from_any _ _ c.any.result (λ i. f i ≡ true) (λ i. f i ≡ false) c.any.ensures.ran (YieldsList-from_range 0 n n (cc) (omega arith)) (λ i q k. rw (← w) (search (rules, tests))) (λ i q k. rw (← w) (search (rules, tests))))

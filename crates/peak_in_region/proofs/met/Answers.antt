@@ -1,40 +1,46 @@
--- `peak_in_region::met` meets its contract: k of the sides below i count.
-use borrow.Author.Rules.{rules}
-use mathlib.Core.Path.{◌≡◌, ap, ap₂, ◌∙◌}
-use mathlib.Core.Bool.{Bool}
-use mathlib.Core.List.{List}
-use Prim.Native.Nat.{ℕ}
-use lib.IntN.{ℤ}
-use Rattle.line_segment.specs.declared.LineSegment.{LineSegment}
-use Rattle.half_line.specs.declared.Corner.{Corner}
-use Rattle.half_line.specs.declared.IHalfLineLineSegmentSoS.{IHalfLineLineSegmentSoS}
-use Rattle.outline.specs.Outline.{side_of}
+-- `peak_in_region::met` meets its contract: it counts the numbers of the sides that count.
+use mathlib.Core.Path.{◌≡◌, refl, ap, ◌∙◌}
+use mathlib.Core.Bool.{Bool, true, false, cond}
+use Prim.Native.Nat.{ℕ, zero, suc, ◌+◌}
 use native.Mathlib.Numerals.{add-one}
 use native.Mathlib.Omega.{arith}
-use Rattle.half_line.specs.HalfLine.{half_line_of}
-use Rattle.region.specs.Region.{right_of, counted, met_side}
-use Rattle.region.proofs.Sides.{count_none, count_more, one_most}
+use mathlib.Core.List.{List, ◌∷◌}
+use lib.ListN.{length}
+use Rattle.std.proofs.Common.{rules, tests}
+use Rattle.std.specs.List.{filter, range_with_len}
+use Rattle.std.proofs.lemmas.Iterator.{YieldsList-from_range}
+use Rattle.std.proofs.lemmas.Iterator.Consumers.{YieldsList-from_filter, count_from_yields_List}
+use Rattle.outline.specs.Counting.{count}
+use Rattle.region.specs.Region.{met_side}
+use Rattle.region.proofs.Sides.{count_none}
 use Rattle.peak_in_region.proofs.met.Goals as goal
 
-pub right_of-right-requires : goal.right_of-right-requires
-right_of-right-requires c = c.requires
+-- those below a, and those of the n from a on
+counted_from : (f : ℕ → Bool) (a n : ℕ) → count f a + length (filter f (range_with_len a n)) ≡ count f (a + n)
+unfolding count
+counted_from f a zero = let e : a + 0 ≡ a = omega arith in omega (arith, ap (count f) e)
+counted_from f a (suc n) = go (f a) refl (counted_from f (a + 1) n)
+  where
+    e : (a + 1) + n ≡ a + suc n
+    e = omega arith
 
-pub loop-i-init : goal.loop-i-init
-loop-i-init c = ((search rules, search rules), count_none _)
+    one_more : count f (a + 1) ≡ count f a + cond (f a) 1 0
+    one_more = rw add-one refl
 
--- what the three calls say together
-said : (outline : List ℤ) (n i : ℕ) (p : Corner) {r : Bool} {m : IHalfLineLineSegmentSoS} {q : Corner} {s : LineSegment}
-    → r ≡ counted m → m ≡ half_line_of p q s → q ≡ right_of p → s ≡ side_of outline n i → r ≡ met_side outline n p i
-unfolding met_side
-said outline n i p e f g h = e ∙ ap counted (f ∙ ap₂ (half_line_of p) g h)
+    rest : List ℕ
+    rest = filter f (range_with_len (a + 1) n)
 
-pub overflow_add-k : goal.overflow_add-k
-overflow_add-k c = record { fits = omega (arith, one_most c.counts.result c.one-k.ensures) }
-
-pub loop-i-preserved : goal.loop-i-preserved
-loop-i-preserved c =
-    let a = c.args in
-    ((omega arith, omega (arith, one_most c.counts.result c.one-k.ensures)), rw add-one (count_more (met_side a.outline.now a.n a.p) c.loop-i.i c.loop-i.invariant.1 (said a.outline.now a.n c.loop-i.i a.p c.counts.ensures c.intersect.ensures c.right_of-right.ensures c.side_of-s.ensures) c.one-k.ensures))
+    go : (b : Bool) → f a ≡ b → count f (a + 1) + length rest ≡ count f ((a + 1) + n) → count f a + length (cond b (a ∷ rest) rest) ≡ count f (a + suc n)
+    go true q h = let z = rw q at one_more in omega (arith, ap (count f) e)
+    go false q h = let z = rw q at one_more in omega (arith, ap (count f) e)
 
 pub returns : goal.returns
-returns c = let e : c.loop-i.i ≡ c.args.n = omega arith in rw e at c.loop-i.invariant.1
+unfolding met_side
+returns c =
+    let s = c.args in
+    let n = s.n in
+    let f = met_side s.outline.now n s.p in
+    let w = c.right_of-right.ensures in
+    count_from_yields_List c.filter.result c.count.result c.count.ensures.ran
+    (YieldsList-from_filter _ f (YieldsList-from_range 0 n n (cc) (omega arith)) c.filter.ensures.closure (λ x r q k. search (rules, tests, w)))
+    ∙ omega (arith, counted_from f 0 n, count_none f, (let e : 0 + n ≡ n = omega arith in ap (count f) e))

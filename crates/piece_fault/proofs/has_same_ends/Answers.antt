@@ -1,22 +1,20 @@
--- `piece_fault::has_same_ends` meets its contract: x is asked, then y.
-use mathlib.Core.Path.{◌≡◌, ◌∙◌, ap₂}
-use mir.Facts.{to_z-of_z}
-use Rattle.charts.specs.Fault.{eq_z, same_ends}
-use Rattle.charts.proofs.Numbers.{shown, and_yes, and_no}
+-- `piece_fault::has_same_ends` meets its contract: two numbers are the same where their bits are.
+use mir.Syntax.{w32}
+use native.Mathlib.Omega.{arith}
+use Rattle.charts.specs.Fault.{same_ends}
+use Rattle.charts.proofs.Numbers.{eq_bits}
 use Rattle.piece_fault.proofs.has_same_ends.Goals as goal
-use Rattle.piece_fault.proofs.has_same_ends.Goals.{After-is_same, After-is_same-then-is_same}
 
--- what each call says of the numbers themselves
-xs : (c : After-is_same) → c.is_same.result ≡ eq_z c.args.x1 c.args.x2
-xs c = c.is_same.ensures ∙ ap₂ eq_z (to_z-of_z c.ranges.x1) (to_z-of_z c.ranges.x2)
-
-ys : (c : After-is_same-then-is_same) → c.is_same-then-is_same.result ≡ eq_z c.args.y1 c.args.y2
-ys c = c.is_same-then-is_same.ensures ∙ ap₂ eq_z (to_z-of_z c.ranges.y1) (to_z-of_z c.ranges.y2)
-
-pub returns-then-is_same : goal.returns-then-is_same
+pub returns-then-x1-x2 : goal.returns-then-x1-x2
 unfolding same_ends
-returns-then-is_same c = and_yes (shown (xs c.before.before) c.if-is_same.true) (ys c)
+returns-then-x1-x2 c =
+    let a = c.args in
+    let f = c.ranges in
+    grind (arith, c.if-x1-x2.true, eq_bits w32 a.x1 a.x2 f.x1 f.x2, eq_bits w32 a.y1 a.y2 f.y1 f.y2)
 
-pub returns-else-is_same : goal.returns-else-is_same
+pub returns-else-x1-x2 : goal.returns-else-x1-x2
 unfolding same_ends
-returns-else-is_same c = and_no (eq_z c.args.y1 c.args.y2) (xs c.before) c.if-is_same.false
+returns-else-x1-x2 c =
+    let a = c.args in
+    let f = c.ranges in
+    grind (arith, c.if-x1-x2.false, eq_bits w32 a.x1 a.x2 f.x1 f.x2, eq_bits w32 a.y1 a.y2 f.y1 f.y2)

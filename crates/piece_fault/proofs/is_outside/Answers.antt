@@ -1,13 +1,13 @@
--- `piece_fault::is_outside` meets its contract: the two orders are asked one after the other.
-use lib.Signed.{lt_z}
+-- `piece_fault::is_outside` meets its contract: a number of the range is neither below it nor above it.
+use native.Mathlib.Omega.{arith}
+use mir.Facts.{to_z-of_z}
+use Rattle.std.proofs.lemmas.Grind.{common_steps}
 use Rattle.charts.specs.Fault.{outside}
-use Rattle.charts.proofs.Numbers.{shown, or_yes, or_no, lt_kept}
 use Rattle.piece_fault.proofs.is_outside.Goals as goal
 
-pub returns-then-v-low : goal.returns-then-v-low
+pub returns : goal.returns
 unfolding outside
-returns-then-v-low c = or_yes (lt_z c.args.high c.args.v) (lt_kept c.ranges.v c.ranges.low) c.if-v-low.true
-
-pub returns-else-v-low : goal.returns-else-v-low
-unfolding outside
-returns-else-v-low c = or_no (shown (lt_kept c.ranges.v c.ranges.low) c.if-v-low.false) (lt_kept c.ranges.high c.ranges.v)
+returns c =
+    let e = c.new.ensures in
+    let f = c.ranges in
+    rw (c.contains.ensures.value, e.exhausted, e.start, e.end, to_z-of_z f.low, to_z-of_z f.high, to_z-of_z f.v) grind (arith, common_steps)

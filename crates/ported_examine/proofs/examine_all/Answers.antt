@@ -1,9 +1,8 @@
 -- `ported_examine::examine_all` meets its contract: the rest of the pass from here gives the same end.
 use mathlib.Core.Path.{◌≡◌, refl, sym, ap, ◌∙◌}
-use Prim.Native.Nat.{◌+◌, ◌-◌, ◌<◌}
 use native.Mathlib.Omega.{arith}
-use lib.ListN.{length, take, drop}
-use lib.Seq.{length-take-le, get_or-take}
+use lib.ListN.{take}
+use Rattle.std.specs.Slice.Iter.{windows_rest, windows_size}
 use Rattle.ported_pieces.specs.Table.{chart_in}
 use Rattle.sweep.specs.Lists.{adjacent}
 use Rattle.sweep.specs.Step.{each}
@@ -11,56 +10,38 @@ use Rattle.ported_arrays.specs.Ledger.{examine}
 use Rattle.ported_examine.proofs.Examinations.{adjacent_step, adjacent_end}
 use Rattle.ported_examine.proofs.examine_all.Goals as goal
 
-pub loop-k-init : goal.loop-k-init
-loop-k-init c = (omega arith, c.requires.1, refl, refl, refl, λ n. refl)
+pub loop-pair-init : goal.loop-pair-init
+loop-pair-init c =
+    let same = c.into_iter-pair-iterator.ensures.into_iter_gives in
+    let size : windows_size c.into_iter-pair-iterator.result ≡ 2 = rw same c.windows-pair-items.ensures.size in
+    let all : windows_rest c.into_iter-pair-iterator.result ≡ take c.args.live c.args.active.now = rw same c.windows-pair-items.ensures.rest in
+    (omega (arith, size), tt, size, c.requires.1, λ n. rw all refl)
 
-pub overflow_sub-k : goal.overflow_sub-k
-overflow_sub-k c = c.loop-k.invariant.0
+pub examine_two-at-requires : goal.examine_two-at-requires
+examine_two-at-requires c =
+    (omega (arith, c.loop-pair.invariant.3, c.loop-pair.auto.waiting), omega (arith, c.loop-pair.auto.waiting, c.requires.2))
 
-pub bounds-active-k : goal.bounds-active-k
-bounds-active-k c = omega (arith, c.loop-k-test.true, c.requires.0)
-
-pub bounds-active-k-in-loop-k : goal.bounds-active-k-in-loop-k
-bounds-active-k-in-loop-k c = omega (arith, c.loop-k-test.true, c.requires.0)
-
-pub examine_two-places-requires : goal.examine_two-places-requires
-examine_two-places-requires c =
-    (omega (arith, c.loop-k.invariant.1, c.loop-k.invariant.3), omega (arith, c.loop-k.invariant.3, c.requires.2))
-
-pub loop-k-preserved : goal.loop-k-preserved
-loop-k-preserved c =
-    let i = c.loop-k.invariant in
-    let e = c.examine_two-places.ensures in
-    let h : c.loop-k.k < length (take c.args.live c.args.active.now) = omega (arith, c.loop-k-test.true, length-take-le c.args.live c.args.active.now c.requires.0) in
-    let one : c.loop-k.k + 1 - 1 ≡ c.loop-k.k = omega arith in
-    let a = get_or-take c.args.live c.args.active.now (c.loop-k.k - 1) 0 (omega (arith, c.loop-k-test.true)) in
-    let d = get_or-take c.args.live c.args.active.now c.loop-k.k 0 c.loop-k-test.true in (
-      omega arith,
-      omega (arith, e.heads, i.3),
-      c.examine_two-places.auto.marks ∙ i.2,
-      c.examine_two-places.auto.waiting ∙ i.3,
-      c.examine_two-places.auto.bytes ∙ i.4,
+pub loop-pair-preserved : goal.loop-pair-preserved
+loop-pair-preserved c =
+    let i = c.loop-pair.invariant in
+    let t = c.in-Some.ensures.steps in
+    let e = c.examine_two-at.ensures in
+    let size : windows_size c.next.new.self ≡ 2 = t.0 ∙ i.2 in (
+      omega (arith, size),
+      tt,
+      size,
+      omega (arith, e.heads, c.loop-pair.auto.waiting),
       λ n.
-          i.5 n
-          ∙ adjacent_step (examine (chart_in n c.args.table.now) c.args.p) (take c.args.live c.args.active.now) c.loop-k.k _ i.0 h
-          ∙ rw (a, d, one) (ap (each (examine (chart_in n c.args.table.now) c.args.p) (adjacent (drop c.loop-k.k (take c.args.live c.args.active.now)))) (sym (e.books n))),
+          let f = examine (chart_in n c.args.table.now) c.args.p in
+          i.4 n
+          ∙ adjacent_step f (windows_rest c.loop-pair.pair-iterator) c.in-Some.pair.now (windows_rest c.next.new.self) (windows_size c.loop-pair.pair-iterator) _ i.2 t.1.0 t.1.1 t.1.2
+          ∙ ap (each f (adjacent (windows_rest c.next.new.self))) (sym (e.books n)),
     )
-
-pub shape_of-marks : goal.shape_of-marks
-shape_of-marks c = c.loop-k.invariant.2
-
-pub shape_of-waiting : goal.shape_of-waiting
-shape_of-waiting c = c.loop-k.invariant.3
-
-pub shape_of-bytes : goal.shape_of-bytes
-shape_of-bytes c = c.loop-k.invariant.4
 
 pub returns : goal.returns
 returns c =
+    let i = c.loop-pair.invariant in
     record {
-      heads = c.loop-k.invariant.1;
-      books = λ n.
-          sym (c.loop-k.invariant.5 n
-          ∙ adjacent_end (examine (chart_in n c.args.table.now) c.args.p) (take c.args.live c.args.active.now) c.loop-k.k _
-          (omega (arith, c.loop-k-test.false, length-take-le c.args.live c.args.active.now c.requires.0)));
+      heads = i.3;
+      books = λ n. sym (i.4 n ∙ adjacent_end (examine (chart_in n c.args.table.now) c.args.p) (windows_rest c.loop-pair.pair-iterator) _ (omega (arith, i.2, c.in-None.ensures.steps.1.0)));
     }

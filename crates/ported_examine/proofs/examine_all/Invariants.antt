@@ -1,6 +1,7 @@
 use mathlib.Core.Path.{◌≡◌}
-use Prim.Native.Nat.{ℕ, ◌-◌, ◌≤◌}
-use lib.ListN.{length, take, drop}
+use Prim.Native.Nat.{ℕ, ◌≤◌}
+use lib.ListN.{length, take}
+use Rattle.std.specs.Slice.Iter.{windows_rest, windows_size}
 use Rattle.ported_pieces.specs.Table.{chart_in}
 use Rattle.sweep.specs.Lists.{adjacent}
 use Rattle.sweep.specs.Step.{each}
@@ -8,8 +9,9 @@ use Rattle.ported_arrays.specs.Ledger.{examine}
 use Rattle.ported_ledger.specs.Views.{ledger}
 use Rattle.ported_examine.proofs.examine_all.Given as goal
 
-abbrev pub invariant-loop-k : goal.invariant-loop-k
-invariant-loop-k l =
-    (1 ≤ l.k) × (l.from ≤ length l.initial.waiting) × (length l.marks ≡ length l.initial.marks) × (length l.waiting ≡ length l.initial.waiting) × (length l.bytes ≡ length l.initial.bytes)
+abbrev pub invariant-loop-pair : goal.invariant-loop-pair
+invariant-loop-pair l =
+    (goal.iterator-loop-pair).can_next l.pair-iterator × (goal.iterator-loop-pair).is_finite l.pair-iterator
+    × (windows_size l.pair-iterator ≡ 2) × (l.at.head ≤ length l.initial.waiting)
     × ((n : ℕ) → each (examine (chart_in n l.table) l.p) (adjacent (take l.live l.active)) (ledger l.initial.marks l.initial.waiting l.head l.initial.bytes l.end)
-    ≡ each (examine (chart_in n l.table) l.p) (adjacent (drop (l.k - 1) (take l.live l.active))) (ledger l.marks l.waiting l.from l.bytes l.to))
+    ≡ each (examine (chart_in n l.table) l.p) (adjacent (windows_rest l.pair-iterator)) (ledger l.marks l.waiting l.at.head l.bytes l.at.end))

@@ -1,5 +1,6 @@
 -- `ported_heights::line_order` meets its contract: each arm knows which line is the steeper.
 use mathlib.Core.Path.{sym, ap, ◌∙◌}
+use Rattle.std.proofs.Common.{inl, inr}
 use Rattle.integers.proofs.Machine.{m_eq}
 use Rattle.integers.proofs.Tests.{ranged}
 use Rattle.fractions.specs.Order.{turned}
@@ -11,17 +12,11 @@ pub returns-in-Less : goal.returns-in-Less
 returns-in-Less c =
     c.compare_ratios-ahead.ensures
     ∙ meets_ahead _ _ _ c.cramer-c.ensures (m_eq (search ranged depth 60 fits 20000) tt) (m_eq (search ranged depth 60 fits 20000) tt)
-    (tilt_less _ _ (sym c.slope_order.ensures ∙ c.in-Less.is))
-
-pub returns-in-Equal : goal.returns-in-Equal
-returns-in-Equal c =
-    c.compare_ratios-ahead.ensures
-    ∙ meets_ahead _ _ _ c.cramer-c.ensures (m_eq (search ranged depth 60 fits 20000) tt) (m_eq (search ranged depth 60 fits 20000) tt)
-    (tilt_equal _ _ (sym c.slope_order.ensures ∙ c.in-Equal.is))
+    (elim c.in-Less.is [ inl e ↦ tilt_less _ _ (sym c.slope_order.ensures ∙ e) | inr e ↦ tilt_equal _ _ (sym c.slope_order.ensures ∙ e) ])
 
 pub returns-in-Greater : goal.returns-in-Greater
 returns-in-Greater c =
-    c.turn.ensures
+    c.reverse.ensures
     ∙ ap turned c.compare_ratios-ahead.ensures
     ∙ sym (ratio_turned _ _ _ _)
     ∙ meets_behind _ _ _ c.cramer-c.ensures (m_eq (search ranged depth 60 fits 20000) tt) (m_eq (search ranged depth 60 fits 20000) tt)

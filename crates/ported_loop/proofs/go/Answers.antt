@@ -1,9 +1,11 @@
 -- `ported_loop::go` meets its contract: after each step the arrays are the sheet.
-use mathlib.Core.Path.{◌∙◌}
+use mathlib.Core.Path.{◌≡◌, sym, ap, ◌∙◌}
+use Prim.Native.Nat.{ℕ}
 use native.Mathlib.Omega.{arith}
 use lib.Seq.{length-take-le}
 use Rattle.ported_run.proofs.Running.{begins, ends_left, waiting_left, spent_all, ran_out, advances}
 use Rattle.ported_run.proofs.Tallying.{tallies_none, tallies}
+use Rattle.ported_run.specs.Running.{last_at}
 use Rattle.ported_loop.proofs.go.Goals as goal
 
 pub loop-steps-init : goal.loop-steps-init
@@ -12,10 +14,10 @@ loop-steps-init c = let a = c.args in (
   tallies_none a.table.now a.ends.now a.active.now a.marks.now a.waiting.now a.bytes.now,
 )
 
-pub returns-in-Nothing : goal.returns-in-Nothing
-returns-in-Nothing c n B =
+pub returns-in-None : goal.returns-in-None
+returns-in-None c n B =
     let i = c.loop-steps.invariant in
-    ran_out i.0 n B (c.next_point.ensures n) c.in-Nothing.is c.last_at.ensures (i.1.counted n B)
+    ran_out i.0 n B (c.next_point.ensures n) c.in-None.is c.last_at.ensures (i.1.counted n B)
 
 pub step-at-requires : goal.step-at-requires
 step-at-requires c =
@@ -32,9 +34,6 @@ step-at-requires c =
       waiting_left = waiting_left G B.0 B.1;
     }
 
-pub overflow_add-steps : goal.overflow_add-steps
-overflow_add-steps c = record { fits = omega (arith, c.loop-steps-test, c.ranges.budget) }
-
 pub tally-examined-requires : goal.tally-examined-requires
 tally-examined-requires c =
     let i = c.loop-steps.invariant in
@@ -48,8 +47,8 @@ loop-steps-preserved c =
     let s = c.step-at.ensures in
     let w = s.0 in
     let at = c.next_point.ensures in
-    let is = c.in-At.is in (
-      advances i.0 (omega (arith, c.loop-steps-test)) w.passed w.lives w.heads
+    let is = c.in-Some.is in (
+      advances i.0 (omega (arith, c.loop-steps-test.true)) w.passed w.lives w.heads
           c.step-at.auto.active c.step-at.auto.marks c.step-at.auto.waiting c.step-at.auto.bytes
           at is s.1.does,
       tallies i.0 i.1 (i.0.active_long ∙ c.requires.1.actives) w.fewer w.lives at is s.1
@@ -59,4 +58,6 @@ loop-steps-preserved c =
 pub returns : goal.returns
 returns c n B =
     let i = c.loop-steps.invariant in
-    spent_all i.0 n B (omega (arith, c.loop-steps-test)) (c.is_empty.ensures n) c.last_at-2.ensures (i.1.counted n B)
+    let all : c.loop-steps.steps ≡ c.args.budget = omega (arith, c.loop-steps-test.false, i.0.spent) in
+    let last = ap (λ (m : ℕ). last_at m c.loop-steps.last) (sym all) in
+    rw all at (spent_all i.0 n B (omega (arith, c.loop-steps-test.false)) (c.is_empty.ensures n) (c.last_at-2.ensures ∙ last) (i.1.counted n B))

@@ -1,59 +1,35 @@
--- `ported_passing::pass_ends` meets its contract: what the loop passed is the front of the list.
-use mathlib.Core.Path.{◌≡◌, refl, sym, ap, ◌∙◌}
-use mathlib.Core.Bool.{Bool, true, not, ◌&&◌}
-use mathlib.Core.List.{List, [], ◌∷◌}
-use Prim.Native.Nat.{ℕ, ◌≤◌, ◌<◌}
+-- `ported_passing::pass_ends` meets its contract: the ends passed are the front of the list.
+use mathlib.Core.Path.{refl, ap, ◌∙◌}
+use mathlib.Core.Bool.{not}
+use mathlib.Core.List.{List}
+use Prim.Native.Nat.{ℕ, ◌+◌}
 use native.Mathlib.Omega.{arith}
-use lib.Dec.{ltb}
-use lib.ListN.{length, get_or}
-use lib.Seq.{slice_empty}
+use lib.ListN.{length-drop}
+use Rattle.std.proofs.lemmas.List.{take_all}
 use Rattle.sweep.specs.Lists.{keep}
 use Rattle.ported_arrays.specs.Numbers.{is_min}
 use Rattle.ported_arrays.specs.Event.{flag, halves}
-use Rattle.ported_passing.specs.Passing.{stands_at}
-use Rattle.ported_passing.proofs.Passed.{on_start, on_inside, on_more, on_end, flag_more, flag_length}
+use Rattle.ported_passing.proofs.Passed.{passing, passed_all, flag_more}
 use Rattle.ported_passing.proofs.pass_ends.Goals as goal
 
-pub loop-p-init : goal.loop-p-init
+pub loop-e-init : goal.loop-e-init
 unfolding flag halves keep
-loop-p-init c =
-    (λ n. on_start _ c.args.ends.now c.args.from c.requires.0, rw (slice_empty c.args.from c.args.ends.now) refl, rw (slice_empty c.args.from c.args.ends.now) refl)
+loop-e-init c = (refl, refl)
 
--- the test says that the member at k is passed
-goes : (f : ℕ → Bool) (l : List ℕ) (k : ℕ) {t : Bool} → t ≡ stands_at f l k → t ≡ true → (ltb k (length l) && f (get_or l k 0)) ≡ true
-unfolding stands_at
-goes f l k e h = sym e ∙ h
-
-pub offset_bounds-ends-k : goal.offset_bounds-ends-k
-offset_bounds-ends-k c = omega (arith, on_inside _ _ _ _ (c.loop-p.invariant.0 0) (goes _ _ _ (c.is_end_at.ensures 0) c.loop-p-test.true), c.requires.1)
-
-pub bounds-ends-k : goal.bounds-ends-k
-bounds-ends-k c = on_inside _ _ _ _ (c.loop-p.invariant.0 0) (goes _ _ _ (c.is_end_at.ensures 0) c.loop-p-test.true)
-
-pub overflow_add-k : goal.overflow_add-k
-overflow_add-k c = omega (arith, on_inside _ _ _ _ (c.loop-p.invariant.0 0) (goes _ _ _ (c.is_end_at.ensures 0) c.loop-p-test.true), c.requires.1)
-
-pub loop-p-smaller : goal.loop-p-smaller
-loop-p-smaller c = omega (arith, on_inside _ _ _ _ (c.loop-p.invariant.0 0) (goes _ _ _ (c.is_end_at.ensures 0) c.loop-p-test.true))
-
-pub loop-p-preserved : goal.loop-p-preserved
-loop-p-preserved c =
-    let es = c.args.ends.now in
-    let h : c.loop-p.k < length es = on_inside _ _ _ _ (c.loop-p.invariant.0 0) (goes _ _ _ (c.is_end_at.ensures 0) c.loop-p-test.true) in
-    let o : c.args.from ≤ c.loop-p.k = (c.loop-p.invariant.0 0).onwards in
+pub loop-e-preserved : goal.loop-e-preserved
+loop-e-preserved c =
+    let i = c.loop-e.invariant in
     let m = c.flag_end.ensures in (
-      λ n. on_more _ es c.args.from c.loop-p.k (c.loop-p.invariant.0 n) (goes _ _ _ (c.is_end_at.ensures n) c.loop-p-test.true),
-      m.0 ∙ ap (λ (z : List ℕ). flag (halves (keep is_min (get_or es c.loop-p.k 0 ∷ []))) z) c.loop-p.invariant.1 ∙ sym (flag_more is_min es c.args.from c.loop-p.k o h _),
-      m.1 ∙ ap (λ (z : List ℕ). flag (halves (keep (λ f. not (is_min f)) (get_or es c.loop-p.k 0 ∷ []))) z) c.loop-p.invariant.2 ∙ sym (flag_more (λ f. not (is_min f)) es c.args.from c.loop-p.k o h _),
+      flag_more _ c.loop-e.e-index (omega arith) is_min _ i.0 m.0,
+      flag_more _ c.loop-e.e-index (omega arith) (λ f. not (is_min f)) _ i.1 m.1,
     )
 
-pub shape_of-starting : goal.shape_of-starting
-shape_of-starting c = ap length c.loop-p.invariant.1 ∙ flag_length _ c.args.starting.now
-
-pub shape_of-finishing : goal.shape_of-finishing
-shape_of-finishing c = ap length c.loop-p.invariant.2 ∙ flag_length _ c.args.finishing.now
-
 pub returns : goal.returns
-unfolding stands_at
 returns c =
-    record { passes = λ n. on_end _ _ _ c.loop-p.k (c.loop-p.invariant.0 n) (sym (c.is_end_at.ensures n) ∙ c.loop-p-test.false); starts = c.loop-p.invariant.1; finishes = c.loop-p.invariant.2 }
+    let p = c.ends_at.ensures in
+    let all = passed_all c.args.ends.now c.args.from (c.args.from + c.ends_at.result) c.loop-e.e-index (omega arith) in
+    record {
+      passes = λ n. passing c.args.from c.ends_at.result c.requires.0 (take_all _ _ (omega (arith, length-drop c.args.from c.args.ends.now))) p.within (p.passed n) (p.stops n);
+      starts = c.loop-e.invariant.0 ∙ ap (λ (z : List ℕ). flag (halves (keep is_min z)) c.args.starting.now) all;
+      finishes = c.loop-e.invariant.1 ∙ ap (λ (z : List ℕ). flag (halves (keep (λ f. not (is_min f)) z)) c.args.finishing.now) all;
+    }

@@ -1,11 +1,7 @@
--- `ported_pieces::less` meets its contract: each arm knows the order of the points.
+-- `ported_pieces::less` meets its contract.
+use mathlib.Core.Path.{ap, ◌∙◌}
+use Rattle.sweep.specs.Ported.{is_less}
 use Rattle.ported_pieces.proofs.less.Goals as goal
 
-pub returns-in-Less : goal.returns-in-Less
-returns-in-Less c = rw (← c.compare_points.ensures, c.in-Less.is)
-
-pub returns-in-Equal : goal.returns-in-Equal
-returns-in-Equal c = rw (← c.compare_points.ensures, c.in-Equal.is)
-
-pub returns-in-Greater : goal.returns-in-Greater
-returns-in-Greater c = rw (← c.compare_points.ensures, c.in-Greater.is)
+pub returns : goal.returns
+returns c = c.is_lt.ensures ∙ ap is_less c.compare_points.ensures

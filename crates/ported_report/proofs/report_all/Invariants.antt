@@ -1,6 +1,6 @@
 use mathlib.Core.Path.{◌≡◌}
 use mathlib.Core.List.{List}
-use Prim.Native.Nat.{ℕ, ◌≤◌}
+use Prim.Native.Nat.{ℕ}
 use lib.ListN.{length, drop}
 use Rattle.ported_pieces.specs.Table.{chart_in}
 use Rattle.sweep.specs.Lists.{pairs}
@@ -9,8 +9,10 @@ use Rattle.ported_arrays.specs.Ledger.{report}
 use Rattle.ported_ledger.specs.Views.{book}
 use Rattle.ported_report.proofs.report_all.Given as goal
 
-abbrev pub invariant-loop-x : goal.invariant-loop-x
-invariant-loop-x l =
-    (l.x ≤ length l.here) × (length l.marks ≡ length l.initial.marks) × (length l.bytes ≡ length l.initial.bytes)
-    × ((n : ℕ) (w : List ℕ) (s : ℕ) → each (report (chart_in n l.table)) (pairs (drop l.h l.here)) (book l.initial.marks w s l.initial.bytes l.end)
-    ≡ each (report (chart_in n l.table)) (pairs (drop l.x l.here)) (book l.marks w s l.bytes l.last))
+abbrev pub invariant-loop-i : goal.invariant-loop-i
+invariant-loop-i l =
+    (n : ℕ) (w : List ℕ) (s : ℕ) → each (report (chart_in n l.table)) (pairs (drop l.h l.here)) (book l.initial.marks w s l.initial.bytes l.end)
+    ≡ each (report (chart_in n l.table)) (pairs l.rest) (book l.marks w s l.bytes l.last)
+
+abbrev pub decreases-loop-i : goal.decreases-loop-i
+decreases-loop-i l = length l.rest

@@ -1,9 +1,6 @@
--- `ported_run::is_empty` meets its contract.
-use Rattle.ported_run.proofs.Running.{empty, not_empty}
+-- `ported_run::is_empty` meets its contract: the queue is empty where there is no next point.
+use Rattle.ported_run.proofs.Running.{emptied}
 use Rattle.ported_run.proofs.is_empty.Goals as goal
 
-pub returns-in-Nothing : goal.returns-in-Nothing
-returns-in-Nothing c n = empty n _ _ _ (c.next_point.ensures n) c.in-Nothing.is
-
-pub returns-in-At : goal.returns-in-At
-returns-in-At c n = not_empty n _ _ _ (c.next_point.ensures n) _ c.in-At.is
+pub returns : goal.returns
+returns c n = emptied n _ _ _ (c.next_point.ensures n) c.is_none.ensures

@@ -1,18 +1,10 @@
--- `segment_crossing::rise` meets its contract: a difference of two i16 fits.
-use Rattle.integers.proofs.Machine.{m_fits, m_eq, m_bound}
+-- `segment_crossing::rise` meets its contract: the span of two i16 is below 2^16 in size.
+use mir.Syntax.{w64}
+use Rattle.integers.proofs.Machine.{m_is, m_back, m_eq, m_bound}
 use Rattle.integers.proofs.Tests.{ranged}
 use Rattle.line_segment.specs.Geometry.{rise}
 use Rattle.segment_crossing.proofs.rise.Goals as goal
 
-pub overflow_cast-result : goal.overflow_cast-result
-overflow_cast-result c = m_fits (search ranged depth 60 fits 20000) tt
-
-pub overflow_cast-result-2 : goal.overflow_cast-result-2
-overflow_cast-result-2 c = m_fits (search ranged depth 60 fits 20000) tt
-
-pub overflow_sub-result : goal.overflow_sub-result
-overflow_sub-result c = m_fits (search ranged depth 60 fits 20000) tt
-
 pub returns : goal.returns
 unfolding rise
-returns c = (m_eq (search ranged depth 60 fits 20000) tt, m_bound (search ranged depth 60 fits 20000) tt)
+returns c = let r = m_back w64 (m_is c.span.ensures (search ranged depth 60 fits 20000)) in (m_eq r tt, m_bound r tt)

@@ -1,27 +1,72 @@
 -- `supplied_entries::mark_entries` meets its contract: the entries below i are good, and their pairs are the marked ones.
-use borrow.Author.Rules.{rules}
-use mathlib.Core.Path.{◌≡◌, sym, ap₂, ◌∙◌, subst}
-use mathlib.Core.Bool.{Bool, true}
-use mathlib.Core.List.{List}
-use Prim.Native.Nat.{ℕ, ◌<◌, ◌+◌}
+use mathlib.Core.Path.{◌≡◌, refl, sym, ap, ap₂, ◌∙◌, subst}
+use mathlib.Core.Bool.{Bool, true, false, cond}
+use mathlib.Core.List.{List, []}
+use Prim.Native.Nat.{ℕ, zero, suc, ◌<◌, ◌+◌, ◌*◌, ◌/◌, max, min}
 use native.Mathlib.Numerals.{add-one}
 use native.Mathlib.Omega.{arith}
-use lib.ListN.{set, get_or}
+use borrow.Author.Tests.{ltb-true, ltb-false}
+use lib.Dec.{ltb}
+use lib.ListN.{set, get_or, length, drop}
+use Rattle.std.specs.Simd.{first_chunks}
+use Rattle.std.proofs.lemmas.List.{get_or-take, get_or-drop}
 use Rattle.line_segment.specs.declared.LineSegment.{LineSegment}
 use Rattle.line_segment.specs.Segment.{intersect_of}
 use Rattle.line_segment.specs.Demand.{says_yes}
 use Rattle.charts.specs.Chart.{most}
 use Rattle.charts.specs.PairList.{cell}
 use Rattle.naive.specs.Decoded.{blank, meets_in}
-use Rattle.supplied.specs.Entries.{one, other, top, low, named}
+use Rattle.supplied.specs.declared.EntryFault.TheVariants.{NoPiece, Itself, Apart, Repeated}
+use Rattle.supplied.specs.Entries.{greater, lesser, one, other, top, low, named}
 use Rattle.supplied.specs.Marks.{Marked, mark_of}
-use Rattle.supplied.proofs.Entries.{in_order, no_piece, itself, apart, repeated, good, faults_none, faults_good, walked_fault, walked_through}
+use Rattle.supplied.proofs.Entries.{in_order, no_piece, itself, apart, repeated, good, faults_none, faults_good, walked_fault}
 use Rattle.supplied.proofs.Marks.{marked_more}
 use Rattle.supplied_entries.proofs.mark_entries.Goals as goal
 
+-- number j of entry i
+byte_of : (bytes : List ℕ) (k i j : ℕ) → i < k → j < 2 → get_or (get_or (first_chunks 2 k bytes) i []) j 0 ≡ get_or bytes (2 * i + j) 0
+byte_of bytes zero i j h l = absurd (omega arith)
+byte_of bytes (suc k) zero j h l =
+    let e : j ≡ 2 * 0 + j = omega arith in
+    get_or-take 2 bytes j 0 l ∙ ap (λ (n : ℕ). get_or bytes n 0) e
+byte_of bytes (suc k) (suc i) j h l =
+    let e : 2 + (2 * i + j) ≡ 2 * suc i + j = omega arith in
+    byte_of (drop 2 bytes) k i j (omega arith) l ∙ get_or-drop 2 bytes (2 * i + j) 0 ∙ ap (λ (n : ℕ). get_or bytes n 0) e
+
+-- the greater is the entry's top, the lesser its low
+greatest : (x y : ℕ) → max x y ≡ greater x y
+unfolding greater
+greatest x y = go (ltb x y) refl
+  where
+    go : (t : Bool) → ltb x y ≡ t → max x y ≡ cond t y x
+    go true e = let h = ltb-true x y e in omega arith
+    go false e = let h = ltb-false x y e in omega arith
+
+least : (x y : ℕ) → min x y ≡ lesser x y
+unfolding lesser
+least x y = go (ltb x y) refl
+  where
+    go : (t : Bool) → ltb x y ≡ t → min x y ≡ cond t x y
+    go true e = let h = ltb-true x y e in omega arith
+    go false e = let h = ltb-false x y e in omega arith
+
+-- of entry i, the numbers that the code goes by
+module _ (bytes : List ℕ) (entries : List (List ℕ)) (i : ℕ) (e : entries ≡ first_chunks 2 (length bytes / 2) bytes) (h : i < length bytes / 2) where
+  first_byte : get_or (get_or entries i []) 0 0 ≡ one bytes i
+  first_byte = let z : 2 * i + 0 ≡ 2 * i = omega arith in rw e (byte_of bytes (length bytes / 2) i 0 h (omega arith) ∙ ap (λ (n : ℕ). get_or bytes n 0) z)
+
+  second_byte : get_or (get_or entries i []) 1 0 ≡ other bytes i
+  second_byte = rw e (byte_of bytes (length bytes / 2) i 1 h (omega arith))
+
+  read : {a m b l : ℕ} → a ≡ m → m ≡ max (get_or (get_or entries i []) 0 0) (get_or (get_or entries i []) 1 0)
+      → b ≡ l → l ≡ min (get_or (get_or entries i []) 0 0) (get_or (get_or entries i []) 1 0) → (a ≡ top bytes i) × (b ≡ low bytes i)
+  read p q r s = (
+    p ∙ q ∙ ap₂ max first_byte second_byte ∙ greatest (one bytes i) (other bytes i),
+    r ∙ s ∙ ap₂ min first_byte second_byte ∙ least (one bytes i) (other bytes i),
+  )
+
 pub loop-i-init : goal.loop-i-init
-loop-i-init c = let s = c.args in
-    (search rules, faults_none s.bytes.now (meets_in s.pieces.all) s.n, c.requires.2)
+loop-i-init c = let s = c.args in (faults_none s.bytes.now (meets_in s.pieces.all) s.n, c.requires.2)
 
 -- of the two numbers, which are the entry's, the lesser is below the greater where they are two
 smaller : (l : List ℕ) (i : ℕ) {a b : ℕ} → a ≡ top l i → b ≡ low l i → ¬ (a ≡ b) → b < a
@@ -45,101 +90,56 @@ pub returns-then-n-a : goal.returns-then-n-a
 returns-then-n-a c =
     let s = c.args in
     let l = c.loop-i in
-    walked_fault s.bytes.now (meets_in s.pieces.all) s.n _ l.i 0 l.invariant.1
-    (no_piece s.bytes.now (meets_in s.pieces.all) s.n l.i (omega (arith, c.if-n-a.true, c.greater_of-a.ensures))) (omega arith)
+    let k : l.i < length s.bytes.now / 2 = omega (arith, c.as_chunks.ensures.front_len) in
+    let r = read s.bytes.now c.as_chunks.result.0.now l.i c.as_chunks.ensures.front k c.from-a.ensures c.max.ensures c.from-b.ensures c.min.ensures in
+    walked_fault s.bytes.now (meets_in s.pieces.all) s.n _ l.i NoPiece l.invariant.0
+    (no_piece s.bytes.now (meets_in s.pieces.all) s.n l.i (omega (arith, c.if-n-a.true, r.0))) k
 
 pub returns-then-a-b : goal.returns-then-a-b
 returns-then-a-b c =
     let s = c.args in
     let l = c.loop-i in
-    walked_fault s.bytes.now (meets_in s.pieces.all) s.n _ l.i 1 l.invariant.1
-    (itself s.bytes.now (meets_in s.pieces.all) s.n l.i (omega (arith, c.if-n-a.false, c.greater_of-a.ensures)) (sym c.greater_of-a.ensures ∙ c.if-a-b.true ∙ c.lesser_of-b.ensures)) (omega arith)
-
-pub bounds-all-a : goal.bounds-all-a
-bounds-all-a c = omega (arith, c.requires.0, c.if-n-a.false)
-
-pub offset_bounds-all-b : goal.offset_bounds-all-b
-offset_bounds-all-b c = omega (arith, c.requires.0, c.if-n-a.false, smaller c.args.bytes.now c.loop-i.i c.greater_of-a.ensures c.lesser_of-b.ensures c.if-a-b.false)
-
-pub bounds-all-b : goal.bounds-all-b
-bounds-all-b c = omega (arith, c.requires.0, c.if-n-a.false, smaller c.args.bytes.now c.loop-i.i c.greater_of-a.ensures c.lesser_of-b.ensures c.if-a-b.false)
-
-pub meets-requires : goal.meets-requires
-meets-requires c =
-    let h = smaller c.args.bytes.now c.loop-i.i c.greater_of-a.ensures c.lesser_of-b.ensures c.if-a-b.false in
-    (c.requires.1.long _ (omega (arith, c.if-n-a.false)), c.requires.1.long _ (omega (arith, c.if-n-a.false, h)))
+    let k : l.i < length s.bytes.now / 2 = omega (arith, c.as_chunks.ensures.front_len) in
+    let r = read s.bytes.now c.as_chunks.result.0.now l.i c.as_chunks.ensures.front k c.from-a.ensures c.max.ensures c.from-b.ensures c.min.ensures in
+    walked_fault s.bytes.now (meets_in s.pieces.all) s.n _ l.i Itself l.invariant.0
+    (itself s.bytes.now (meets_in s.pieces.all) s.n l.i (omega (arith, c.if-n-a.false, r.0)) (sym r.0 ∙ c.if-a-b.true ∙ r.1)) k
 
 pub returns-then-not-meets : goal.returns-then-not-meets
 returns-then-not-meets c =
     let s = c.args in
     let l = c.loop-i in
-    let g = c.greater_of-a.ensures in
-    let h = c.lesser_of-b.ensures in
-    walked_fault s.bytes.now (meets_in s.pieces.all) s.n _ l.i 2 l.invariant.1
-    (apart s.bytes.now (meets_in s.pieces.all) s.n l.i (omega (arith, c.if-n-a.false, g)) (apart_here s.bytes.now l.i g h c.if-a-b.false)
-    (said s.pieces.all s.bytes.now l.i g h c.meets.ensures ∙ c.if-not-meets.true)) (omega arith)
-
-pub overflow_mul-a : goal.overflow_mul-a
-overflow_mul-a c =
-    let h = smaller c.args.bytes.now c.loop-i.i c.greater_of-a.ensures c.lesser_of-b.ensures c.if-a-b.false in
-    omega (arith, h, c.if-n-a.false, c.requires.0, c.loop-i.invariant.2.size)
-
-pub overflow_add-a : goal.overflow_add-a
-overflow_add-a c =
-    let h = smaller c.args.bytes.now c.loop-i.i c.greater_of-a.ensures c.lesser_of-b.ensures c.if-a-b.false in
-    omega (arith, h, c.if-n-a.false, c.requires.0, c.loop-i.invariant.2.size)
-
-pub bounds-marks-a : goal.bounds-marks-a
-bounds-marks-a c =
-    let h = smaller c.args.bytes.now c.loop-i.i c.greater_of-a.ensures c.lesser_of-b.ensures c.if-a-b.false in
-    omega (arith, h, c.if-n-a.false, c.requires.0, c.loop-i.invariant.2.size)
-
-pub overflow_mul-marks : goal.overflow_mul-marks
-overflow_mul-marks c =
-    let h = smaller c.args.bytes.now c.loop-i.i c.greater_of-a.ensures c.lesser_of-b.ensures c.if-a-b.false in
-    omega (arith, h, c.if-n-a.false, c.requires.0, c.loop-i.invariant.2.size)
-
-pub overflow_add-marks : goal.overflow_add-marks
-overflow_add-marks c =
-    let h = smaller c.args.bytes.now c.loop-i.i c.greater_of-a.ensures c.lesser_of-b.ensures c.if-a-b.false in
-    omega (arith, h, c.if-n-a.false, c.requires.0, c.loop-i.invariant.2.size)
-
-pub bounds-marks-a-in-loop-i : goal.bounds-marks-a-in-loop-i
-bounds-marks-a-in-loop-i c =
-    let h = smaller c.args.bytes.now c.loop-i.i c.greater_of-a.ensures c.lesser_of-b.ensures c.if-a-b.false in
-    omega (arith, h, c.if-n-a.false, c.requires.0, c.loop-i.invariant.2.size)
+    let k : l.i < length s.bytes.now / 2 = omega (arith, c.as_chunks.ensures.front_len) in
+    let r = read s.bytes.now c.as_chunks.result.0.now l.i c.as_chunks.ensures.front k c.from-a.ensures c.max.ensures c.from-b.ensures c.min.ensures in
+    walked_fault s.bytes.now (meets_in s.pieces.all) s.n _ l.i Apart l.invariant.0
+    (apart s.bytes.now (meets_in s.pieces.all) s.n l.i (omega (arith, c.if-n-a.false, r.0)) (apart_here s.bytes.now l.i r.0 r.1 c.if-a-b.false)
+    (said s.pieces.all s.bytes.now l.i r.0 r.1 c.meets.ensures ∙ c.if-not-meets.true)) k
 
 pub returns-then-marks-a : goal.returns-then-marks-a
 unfolding cell
 returns-then-marks-a c =
     let s = c.args in
     let l = c.loop-i in
-    let g = c.greater_of-a.ensures in
-    let h = c.lesser_of-b.ensures in
-    let d = smaller s.bytes.now l.i g h c.if-a-b.false in
-    walked_fault s.bytes.now (meets_in s.pieces.all) s.n _ l.i 3 l.invariant.1
-    (repeated s.bytes.now (meets_in s.pieces.all) s.n l.i (omega (arith, c.if-n-a.false, g)) (apart_here s.bytes.now l.i g h c.if-a-b.false)
-    (said s.pieces.all s.bytes.now l.i g h c.meets.ensures ∙ c.if-not-meets.false)
-    (marked l.marks s.bytes.now l.i l.invariant.2 g h d (omega (arith, c.if-n-a.false, c.requires.0)) ∙ c.if-marks-a.true)) (omega arith)
+    let k : l.i < length s.bytes.now / 2 = omega (arith, c.as_chunks.ensures.front_len) in
+    let r = read s.bytes.now c.as_chunks.result.0.now l.i c.as_chunks.ensures.front k c.from-a.ensures c.max.ensures c.from-b.ensures c.min.ensures in
+    let d = smaller s.bytes.now l.i r.0 r.1 c.if-a-b.false in
+    walked_fault s.bytes.now (meets_in s.pieces.all) s.n _ l.i Repeated l.invariant.0
+    (repeated s.bytes.now (meets_in s.pieces.all) s.n l.i (omega (arith, c.if-n-a.false, r.0)) (apart_here s.bytes.now l.i r.0 r.1 c.if-a-b.false)
+    (said s.pieces.all s.bytes.now l.i r.0 r.1 c.meets.ensures ∙ c.if-not-meets.false)
+    (marked l.marks s.bytes.now l.i l.invariant.1 r.0 r.1 d (omega (arith, c.if-n-a.false, c.requires.0)) ∙ c.if-marks-a.true)) k
 
 pub loop-i-preserved : goal.loop-i-preserved
 unfolding cell
 loop-i-preserved c =
     let s = c.args in
     let l = c.loop-i in
-    let g = c.greater_of-a.ensures in
-    let h = c.lesser_of-b.ensures in
-    let d = smaller s.bytes.now l.i g h c.if-a-b.false in (
-      omega arith,
-      rw add-one (faults_good s.bytes.now (meets_in s.pieces.all) s.n l.i l.invariant.1
-          (good s.bytes.now (meets_in s.pieces.all) s.n l.i (omega (arith, c.if-n-a.false, g)) (apart_here s.bytes.now l.i g h c.if-a-b.false)
-          (said s.pieces.all s.bytes.now l.i g h c.meets.ensures ∙ c.if-not-meets.false)
-          (marked l.marks s.bytes.now l.i l.invariant.2 g h d (omega (arith, c.if-n-a.false, c.requires.0)) ∙ c.if-marks-a.false))),
-      subst (λ (k : ℕ). Marked (set l.marks k true) s.bytes.now (l.i + 1)) (sym (ap₂ (λ (x y : ℕ). cell (x, y)) g h))
+    let k : l.i < length s.bytes.now / 2 = omega (arith, c.as_chunks.ensures.front_len) in
+    let r = read s.bytes.now c.as_chunks.result.0.now l.i c.as_chunks.ensures.front k c.from-a.ensures c.max.ensures c.from-b.ensures c.min.ensures in
+    let d = smaller s.bytes.now l.i r.0 r.1 c.if-a-b.false in (
+      rw add-one (faults_good s.bytes.now (meets_in s.pieces.all) s.n l.i l.invariant.0
+          (good s.bytes.now (meets_in s.pieces.all) s.n l.i (omega (arith, c.if-n-a.false, r.0)) (apart_here s.bytes.now l.i r.0 r.1 c.if-a-b.false)
+          (said s.pieces.all s.bytes.now l.i r.0 r.1 c.meets.ensures ∙ c.if-not-meets.false)
+          (marked l.marks s.bytes.now l.i l.invariant.1 r.0 r.1 d (omega (arith, c.if-n-a.false, c.requires.0)) ∙ c.if-marks-a.false))),
+      subst (λ (k : ℕ). Marked (set l.marks k true) s.bytes.now (l.i + 1)) (sym (ap₂ (λ (x y : ℕ). cell (x, y)) r.0 r.1))
           (subst (Marked (set l.marks (cell (top s.bytes.now l.i, low s.bytes.now l.i)) true) s.bytes.now) (sym (add-one l.i))
-          (marked_more s.bytes.now l.i l.marks l.invariant.2 (omega (arith, d, g, h)) (omega (arith, c.if-n-a.false, c.requires.0, g)))),
+          (marked_more s.bytes.now l.i l.marks l.invariant.1 (omega (arith, d, r.0, r.1)) (omega (arith, c.if-n-a.false, c.requires.0, r.0)))),
     )
-
-pub returns : goal.returns
-returns c = let l = c.loop-i in let s = c.args in
-    walked_through s.bytes.now (meets_in s.pieces.all) s.n _ l.i (omega arith) l.invariant.1 l.invariant.2

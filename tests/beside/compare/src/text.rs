@@ -1,8 +1,6 @@
 //! The library's own text, read as Rust, so that its sweep can tell its state after every step, and the new mode be asked
 //! without an emulator.
 
-use ported_run::Last;
-
 use crate::answers::{Chart, MOST_PIECES, Pair, Point, Run, Step, Swept};
 use crate::lent::{self, room};
 use crate::model;
@@ -53,14 +51,11 @@ fn as_swept(told: bentley_ottmann::Swept) -> Swept {
     steps: told.steps,
     ended: told.ended,
     complete: told.complete,
-    last: match told.last {
-      Last::None => None,
-      Last::At(p) => Some(Point {
-        x: p.x.into(),
-        y: p.y.into(),
-        d: p.d.into(),
-      }),
-    },
+    last: told.last.map(|p| Point {
+      x: p.x.into(),
+      y: p.y.into(),
+      d: p.d.into(),
+    }),
     examined: told.examined,
   }
 }
