@@ -2,4 +2,4 @@
 /^fn examine_two(/,/^}/s/^{$/&\
     told::examined(a, b);/
 /^    At {$/i\
-    told::step((p.x, p.y, p.d), \&active[..turned.live], marks, \&waiting[turned.head..], \&bytes[..turned.end]);
+    told::step((p.x, p.y, p.d), \&active[..turned.live], \&book.marks, \&book.waiting[book.head..], \&bytes[..book.end]);

@@ -8,9 +8,11 @@ ghost use Rattle.c_records.specs.Checks.{checked_as};
 ghost use Rattle.c_records.specs.Numbers.{turn_number};
 ghost use Rattle.c_records.specs.Meetings.{end_fields, met_as};
 ghost use Rattle.c_records.specs.Places.{placed_as};
-ghost use Rattle.c_records.specs.Regions.{region_number, half_met_as};
+ghost use Rattle.region.specs.Region.{region_told};
+ghost use Rattle.c_records.specs.Regions.{region_number, located_of, half_met_as};
 
 use bentley_ottmann::Swept;
+use charts::Refusal;
 use fractions::Point;
 use line_segment::{EndPoint, Meeting};
 use orientation::Orientation;
@@ -246,6 +248,7 @@ pub fn checked_fields(checked: Checked) -> CheckedFields
     }
 }
 
+// A match: the number is C's, and no `From` for i8 may be written outside the orientation's crate.
 #[tactic(auto, unfolding(crate::specs::Numbers::turn_number))]
 pub fn turn_number(o: Orientation) -> i8
     ensures { result ≡ turn_number o }
@@ -257,15 +260,33 @@ pub fn turn_number(o: Orientation) -> i8
     }
 }
 
+// A match: the number is C's, and no `From` for u8 may be written outside the region's crate.
 #[tactic(auto, unfolding(crate::specs::Regions::region_number))]
 pub fn region_number(r: Region) -> u8
     ensures { result ≡ region_number r }
 {
     match r {
-        Region::None => 0,
         Region::On => 1,
         Region::Inside => 2,
         Region::Outside => 3,
+    }
+}
+
+#[tactic(auto, unfolding(crate::specs::Regions::located_of))]
+pub fn located_fields(answer: Result<Region, Refusal>) -> Located
+    ensures { result ≡ located_of (region_told answer) }
+{
+    match answer {
+        Ok(region) => Located {
+            number: 0,
+            place: 0,
+            region: region_number(region),
+        },
+        Err(refusal) => Located {
+            number: refusal.reason.number(),
+            place: refusal.place,
+            region: 0,
+        },
     }
 }
 

@@ -159,13 +159,7 @@ pub fn mirtalughe_check(list: &[i32], pairs: &[u8]) -> CheckedFields
 pub fn mirtalughe_region(outline: &[i32], x: i32, y: i32) -> Located
     ensures { result ≡ located_of (region_answer_of outline.now x y) }
 {
-    let answer = peak_in_region::locate(outline, x, y);
-    let region = answer.region;
-    Located {
-        number: answer.number,
-        place: answer.place,
-        region: c_records::region_number(region),
-    }
+    c_records::located_fields(peak_in_region::locate(outline, x, y))
 }
 
 // How the half-line from x, y through tx, ty meets the piece of five numbers.

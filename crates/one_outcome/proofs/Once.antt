@@ -1,6 +1,6 @@
 -- One outcome, of the functions from which the ported sweep is built, and of `size`. Each contract is taken as the check reads it.
 -- Assumes nothing.
-use mathlib.Core.Path.{◌≡◌, refl, sym, ap, ◌∙◌}
+use mathlib.Core.Path.{◌≡◌, refl, sym, ap, ap₂, ◌∙◌}
 use mathlib.Core.Bool.{Bool}
 use mathlib.Core.List.{List, []}
 use mathlib.Core.Option.{none}
@@ -13,6 +13,7 @@ use Rattle.ported_arrays.specs.Ledger.{Ledger}
 use Rattle.ported_pieces.specs.Table.{chart_in}
 use Rattle.ported_passing.specs.Passing.{Passing}
 use Rattle.ported_gather.specs.Joined.{Joined}
+use Rattle.ported_ledger.specs.Books.{ledger_of}
 use Rattle.integers.proofs.size.Reads as size
 use Rattle.ported_heights.proofs.slope_order.Reads as slope_order
 use Rattle.ported_heights.proofs.height_order.Reads as height_order
@@ -26,10 +27,9 @@ use Rattle.ported_gather.proofs.gather.Reads as gather
 use Rattle.ported_active.proofs.leave.Reads as leave
 use Rattle.ported_active.proofs.enter.Reads as enter
 use Rattle.ported_active.proofs.resort.Reads as resort
-use Rattle.ported_ledger.proofs.cell_of.Reads as cell_of
-use Rattle.ported_ledger.proofs.mark_at.Reads as mark_at
-use Rattle.ported_ledger.proofs.list_pair.Reads as list_pair
-use Rattle.ported_ledger.proofs.wait_pair.Reads as wait_pair
+use Rattle.ported_ledger.proofs.Book.mark_of.Reads as mark_of
+use Rattle.ported_ledger.proofs.Book.list_pair.Reads as list_pair
+use Rattle.ported_ledger.proofs.Book.wait_pair.Reads as wait_pair
 use Rattle.ported_report.proofs.report_all.Reads as report_all
 use Rattle.ported_examine.proofs.examine_all.Reads as examine_all
 use Rattle.ported_step.proofs.step.Reads as step
@@ -45,11 +45,8 @@ slope_order_once κ a x y s t h k = h ∙ sym k
 pub height_order_once : OneResult height_order.Post
 height_order_once κ a x y s t h k = h ∙ sym k
 
-pub cell_of_once : OneResult cell_of.Post
-cell_of_once κ a x y s t h k = h ∙ sym k
-
-pub mark_at_once : OneResult mark_at.Post
-mark_at_once κ a x y s t h k = h ∙ sym k
+pub mark_of_once : OneResult mark_of.Post
+mark_of_once κ a x y s t h k = h ∙ sym k
 
 pub next_point_once : OneResult next_point.Post
 next_point_once κ a x y s t h k = h 0 ∙ sym (k 0)
@@ -60,15 +57,11 @@ fill_once κ a x y s t h k = (refl, h ∙ sym k)
 pub order_ends_once : OneOutcome order_ends.Post (λ κ s. s.1.0.now)
 order_ends_once κ a x y s t h k = (refl, h 0 ∙ sym (k 0))
 
-pub list_pair_once : OneOutcome list_pair.Post {M = List ℕ × List ℕ} (λ κ s. (s.0.now, s.1.0.now))
-list_pair_once κ a x y s t h k =
-    let e = h [] 0 ∙ sym (k [] 0) in
-    (ap (λ (b : Ledger). b.end) e, λ i. (ap (λ (b : Ledger). b.marks) e i, ap (λ (b : Ledger). b.bytes) e i))
+pub list_pair_once : OneOutcome list_pair.Post {M = Ledger × List ℕ} (λ κ s. (ledger_of s.0.now s.1.0.now, s.0.now.waiting))
+list_pair_once κ a x y s t h k = (refl, ap₂ {A = Ledger} {B = List ℕ} (λ l w. (l, w)) (h.0 ∙ sym k.0) (h.1 ∙ sym k.1))
 
-pub report_all_once : OneOutcome report_all.Post {M = List ℕ × List ℕ} (λ κ s. (s.1.1.1.0.now, s.1.1.1.1.0.now))
-report_all_once κ a x y s t h k =
-    let e = h 0 [] 0 ∙ sym (k 0 [] 0) in
-    (ap (λ (b : Ledger). b.end) e, λ i. (ap (λ (b : Ledger). b.marks) e i, ap (λ (b : Ledger). b.bytes) e i))
+pub report_all_once : OneOutcome report_all.Post {M = Ledger × List ℕ} (λ κ s. (ledger_of s.1.1.1.0.now s.1.1.1.1.0.now, s.1.1.1.0.now.waiting))
+report_all_once κ a x y s t h k = (refl, ap₂ {A = Ledger} {B = List ℕ} (λ l w. (l, w)) (h.0 0 ∙ sym (k.0 0)) (h.1 ∙ sym k.1))
 
 -- two loops that pass the front of one list pass as many
 passed_once : {f : ℕ → Bool} {l : List ℕ} {from x y : ℕ} → Passing f l from x → Passing f l from y → x ≡ y
@@ -91,21 +84,12 @@ pass_crossings_once κ a x y s t h k =
 pub wait_once : OneInUse wait.Pre wait.Post (λ κ a s. Unit {0}) (λ κ a x s. drop x s.1.0.now)
 wait_once κ a x y s t p u v h k = ((h 0).0 ∙ sym (k 0).0, (h 0).2 ∙ sym (k 0).2)
 
--- .. with their marks
-pub wait_pair_once : OneInUse wait_pair.Pre wait_pair.Post (λ κ a s. Unit {0}) {M = List ℕ × List ℕ} (λ κ a x s. (s.1.1.1.0.now, drop x s.1.1.1.1.0.now))
-wait_pair_once κ a x y s t p u v h k =
-    let e = h.1 0 [] 0 ∙ sym (k.1 0 [] 0) in
-    (ap (λ (b : Ledger). b.spare) e, λ i. (ap (λ (b : Ledger). b.marks) e i, ap (λ (b : Ledger). b.waiting) e i))
+-- .. and the whole ledger that a book and the lent bytes hold
+pub wait_pair_once : OneInUse wait_pair.Pre wait_pair.Post (λ κ a s. Unit {0}) (λ κ a x s. ledger_of s.0.now [])
+wait_pair_once κ a x y s t p u v h k = (refl, h 0 [] ∙ sym (k 0 []))
 
--- .. and the list's bytes
-pub examine_all_once :
-    OneInUse examine_all.Pre examine_all.Post (λ κ a s. Unit {0}) {M = List ℕ × List ℕ × List ℕ}
-    (λ κ a x s. (s.1.1.1.1.0.now, drop x.head s.1.1.1.1.1.0.now, s.1.1.1.1.1.1.1.0.now))
-examine_all_once κ a x y s t p u v h k =
-    let e = h.books 0 ∙ sym (k.books 0) in (
-      λ i. record { head = ap (λ (b : Ledger). b.spare) e i; end = ap (λ (b : Ledger). b.end) e i },
-      λ i. (ap (λ (b : Ledger). b.marks) e i, ap (λ (b : Ledger). b.waiting) e i, ap (λ (b : Ledger). b.bytes) e i),
-    )
+pub examine_all_once : OneInUse examine_all.Pre examine_all.Post (λ κ a s. Unit {0}) (λ κ a x s. ledger_of s.1.1.1.1.0.now s.1.1.1.1.1.0.now)
+examine_all_once κ a x y s t p u v h k = (refl, h 0 ∙ sym (k 0))
 
 -- the pieces at p, from the place returned on
 joined_once : {vs a b c : List ℕ} {h x y : ℕ} → h ≤ length a → Joined vs a h b x → Joined vs a h c y → (x ≡ y) × (drop x b ≡ drop y c)
@@ -129,22 +113,14 @@ enter_once κ a x y s t p u v h k = taken_once _ _ _ x y (omega (arith, u, h.0))
 pub resort_once : OneInUse resort.Pre resort.Post (λ κ a s. Unit {0}) (λ κ a x s. take a.1.1.1.0 s.1.1.0.now)
 resort_once κ a x y s t p u v h k = (refl, h ∙ sym k)
 
--- ---- a step: the marks and the list's bytes whole, of the active pieces and those that wait what is in use
+-- ---- a step: the ledger, and of the active pieces what is in use
 pub record InUse : Type 0 where
   pub active : List ℕ
-  pub waiting : List ℕ
-  pub marks : List ℕ
-  pub bytes : List ℕ
+  pub ledger : Ledger
 
 pub step_once :
     OneInUse step.Pre step.Post (λ κ a s. length s.1.1.1.1.0.now ≡ length a.1.1.1.1.0.now) {M = InUse}
-    (λ κ a x s.
-    record {
-      active = take x.live s.1.1.1.1.0.now;
-      waiting = drop x.head s.1.1.1.1.1.1.1.0.now;
-      marks = s.1.1.1.1.1.1.0.now;
-      bytes = s.1.1.1.1.1.1.1.1.1.0.now;
-    })
+    (λ κ a x s. record { active = take x.live s.1.1.1.1.0.now; ledger = ledger_of s.1.1.1.1.1.1.0.now s.1.1.1.1.1.1.1.0.now })
 step_once κ a x y s t p u v h k =
     let C = chart_in 0 a.0.now in
     let e = h.1.does 0 none 0 ∙ sym (k.1.does 0 none 0) in
@@ -153,19 +129,6 @@ step_once κ a x y s t p u v h k =
     let actives : take x.live s.1.1.1.1.0.now ≡ take y.live t.1.1.1.1.0.now = ap (λ (w : Sheet C). w.active) e in
     let live : x.live ≡ y.live =
     omega (arith, length-take x.live s.1.1.1.1.0.now, length-take y.live t.1.1.1.1.0.now, ap length actives, h.0.lives, k.0.lives, u, v) in (
-      λ i.
-          record {
-            passed = passed i;
-            stay = (h.1.stayed 0 none 0 ∙ sym (k.1.stayed 0 none 0)) i;
-            live = live i;
-            head = ap (λ (w : Sheet C). w.ledger.spare) e i;
-            end = ap (λ (w : Sheet C). w.ledger.end) e i;
-          },
-      λ i.
-          record {
-            active = actives i;
-            waiting = ap (λ (w : Sheet C). w.ledger.waiting) e i;
-            marks = ap (λ (w : Sheet C). w.ledger.marks) e i;
-            bytes = ap (λ (w : Sheet C). w.ledger.bytes) e i;
-          },
+      λ i. record { passed = passed i; stay = (h.1.stayed 0 none 0 ∙ sym (k.1.stayed 0 none 0)) i; live = live i },
+      λ i. record { active = actives i; ledger = ap (λ (w : Sheet C). w.ledger) e i },
     )

@@ -34,6 +34,7 @@ use Rattle.c_records.proofs.swept_fields.Reads as swept_fields
 use Rattle.c_records.proofs.checked_fields.Reads as checked_fields
 use Rattle.c_records.proofs.turn_number.Reads as turn_number
 use Rattle.c_records.proofs.region_number.Reads as region_number
+use Rattle.c_records.proofs.located_fields.Reads as located_fields
 use Rattle.c_records.proofs.half_met.Reads as half_met
 
 -- ---- charts and the open chart
@@ -123,6 +124,9 @@ turn_number_once κ a x y s t h k = h ∙ sym k
 
 pub region_number_once : OneResult region_number.Post
 region_number_once κ a x y s t h k = h ∙ sym k
+
+pub located_fields_once : OneResult located_fields.Post
+located_fields_once κ a x y s t h k = h ∙ sym k
 
 pub half_met_once : OneResult half_met.Post
 half_met_once κ a x y s t h k = h ∙ sym k

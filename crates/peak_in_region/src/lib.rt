@@ -3,12 +3,13 @@
 
 ghost use Rattle.std.specs.Prelude.{◌≡◌, ltb, pos, ◌<ℤ◌};
 ghost use Rattle.outline.specs.Counting.{first, count};
-ghost use Rattle.region.specs.Region.{right_of, counted, on_side, met_side, parity, region_of, region_answer_of};
+ghost use Rattle.region.specs.Region.{right_of, counted, on_side, met_side, parity, region_of, region_answer_of, region_told};
 
+use charts::Refusal;
 use half_line::Corner;
 use lowest_terms::whole;
 use orientation::Orientation;
-use region::{Region, RegionAnswer};
+use region::Region;
 
 // The point that the half-line goes through.
 fn right_of(p: Corner) -> Corner
@@ -61,19 +62,9 @@ fn region_at(outline: &[i32], n: usize, p: Corner) -> Region
 }
 
 // Where the peak x, y lies to the region of an outline, two numbers a corner.
-pub fn locate(outline: &[i32], x: i32, y: i32) -> RegionAnswer
-    ensures { result ≡ region_answer_of outline.now x y }
+pub fn locate(outline: &[i32], x: i32, y: i32) -> Result<Region, Refusal>
+    ensures { region_told result ≡ region_answer_of outline.now x y }
 {
-    match outline::verdict_of(outline, x, y) {
-        Err(refusal) => RegionAnswer {
-            number: refusal.reason.number(),
-            place: refusal.place,
-            region: Region::None,
-        },
-        Ok(n) => RegionAnswer {
-            number: 0,
-            place: 0,
-            region: region_at(outline, n, half_line::corner_at(x, y)),
-        },
-    }
+    let n = outline::verdict_of(outline, x, y)?;
+    Ok(region_at(outline, n, half_line::corner_at(x, y)))
 }

@@ -12,111 +12,48 @@ ghost use Rattle.ported_examine.specs.Examined.{Examined};
 
 use fractions::Point;
 use line_segment::Meeting;
-use ported_ledger::{FREE, cell_of, list_pair, mark_at, wait_pair};
-
-// Where the waiting pairs begin and where the list ends.
-#[derive(Clone, Copy)]
-pub struct Places {
-    pub head: usize,
-    pub end: usize,
-}
+use ported_ledger::{Book, FREE};
 
 // A free pair that crosses: beyond p it waits, else it is listed.
-fn examine_crossing(
-    table: &[i16],
-    p: Point,
-    i: u8,
-    j: u8,
-    marks: &mut [u8],
-    waiting: &mut [u16],
-    head: usize,
-    bytes: &mut [u8],
-    end: usize,
-) -> Places
-    requires { (head ≤ length waiting.old) × (length waiting.old ≤ 65536) }
-    ensures { Examined (λ n. examine_free (chart_in n table.now) p crosses (i, j))
-        marks.old waiting.old head bytes.old end marks.new waiting.new bytes.new result }
+fn examine_crossing(table: &[i16], p: Point, i: u8, j: u8, book: &mut Book, bytes: &mut [u8])
+    ensures { Examined (λ n. examine_free (chart_in n table.now) p crosses (i, j)) book.old bytes.old book.new bytes.new }
 {
     if ported_pieces::crossing_beyond(table, p, i, j) {
-        return Places {
-            head: wait_pair(table, i, j, marks, waiting, head),
-            end,
-        };
-    }
-    Places {
-        head,
-        end: list_pair(marks, bytes, end, i, j),
+        book.wait_pair(table, i, j);
+    } else {
+        book.list_pair(bytes, i, j);
     }
 }
 
 // A pair that is free is examined by how its pieces meet.
-fn examine_free(
-    table: &[i16],
-    p: Point,
-    i: u8,
-    j: u8,
-    marks: &mut [u8],
-    waiting: &mut [u16],
-    head: usize,
-    bytes: &mut [u8],
-    end: usize,
-) -> Places
-    requires { (head ≤ length waiting.old) × (length waiting.old ≤ 65536) }
-    ensures { Examined (λ n. examine_free (chart_in n table.now) p (kind (chart_in n table.now) (i, j)) (i, j))
-        marks.old waiting.old head bytes.old end marks.new waiting.new bytes.new result }
+fn examine_free(table: &[i16], p: Point, i: u8, j: u8, book: &mut Book, bytes: &mut [u8])
+    ensures { Examined (λ n. examine_free (chart_in n table.now) p (kind (chart_in n table.now) (i, j)) (i, j)) book.old bytes.old book.new bytes.new }
 {
     match ported_pieces::test(table, i, j) {
-        Meeting::Nothing => Places { head, end },
-        Meeting::Crossing => examine_crossing(table, p, i, j, marks, waiting, head, bytes, end),
-        Meeting::Overlap(_) => Places {
-            head,
-            end: list_pair(marks, bytes, end, i, j),
-        },
+        Meeting::Nothing => {}
+        Meeting::Crossing => examine_crossing(table, p, i, j, book, bytes),
+        Meeting::Overlap(_) => book.list_pair(bytes, i, j),
     }
 }
 
 // A listed or waiting pair is skipped.
-fn examine_pair(
-    table: &[i16],
-    p: Point,
-    i: u8,
-    j: u8,
-    marks: &mut [u8],
-    waiting: &mut [u16],
-    head: usize,
-    bytes: &mut [u8],
-    end: usize,
-) -> Places
-    requires { (head ≤ length waiting.old) × (length waiting.old ≤ 65536) }
-    ensures { Examined (λ n. examine (chart_in n table.now) p (i, j))
-        marks.old waiting.old head bytes.old end marks.new waiting.new bytes.new result }
+fn examine_pair(table: &[i16], p: Point, i: u8, j: u8, book: &mut Book, bytes: &mut [u8])
+    ensures { Examined (λ n. examine (chart_in n table.now) p (i, j)) book.old bytes.old book.new bytes.new }
 {
-    if mark_at(marks, cell_of(i, j)) != FREE {
-        return Places { head, end };
+    if book.mark_of(i, j) == FREE {
+        examine_free(table, p, i, j, book, bytes);
     }
-    examine_free(table, p, i, j, marks, waiting, head, bytes, end)
 }
 
 // Two adjacent pieces, the lesser number asking.
-fn examine_two(
-    table: &[i16],
-    p: Point,
-    a: u8,
-    b: u8,
-    marks: &mut [u8],
-    waiting: &mut [u16],
-    head: usize,
-    bytes: &mut [u8],
-    end: usize,
-) -> Places
-    requires { (head ≤ length waiting.old) × (length waiting.old ≤ 65536) }
-    ensures { Examined (λ n. examine (chart_in n table.now) p (lesser_first a b))
-        marks.old waiting.old head bytes.old end marks.new waiting.new bytes.new result }
+fn examine_two(table: &[i16], p: Point, a: u8, b: u8, book: &mut Book, bytes: &mut [u8])
+    ensures { Examined (λ n. examine (chart_in n table.now) p (lesser_first a b)) book.old bytes.old book.new bytes.new }
 {
     if a < b {
-        return examine_pair(table, p, a, b, marks, waiting, head, bytes, end);
+        examine_pair(table, p, a, b, book, bytes);
+    } else {
+        examine_pair(table, p, b, a, book, bytes);
     }
-    examine_pair(table, p, b, a, marks, waiting, head, bytes, end)
 }
 
 // Every adjacent pair of the first `live` active pieces, in order.
@@ -125,21 +62,13 @@ pub fn examine_all(
     p: Point,
     active: &[u8],
     live: usize,
-    marks: &mut [u8],
-    waiting: &mut [u16],
-    head: usize,
+    book: &mut Book,
     bytes: &mut [u8],
-    end: usize,
-) -> Places
-    requires { (live ≤ length active.now) × (head ≤ length waiting.old) × (length waiting.old ≤ 65536) }
-    ensures { Examined (λ n. each (examine (chart_in n table.now) p) (adjacent (take live active.now)))
-        marks.old waiting.old head bytes.old end marks.new waiting.new bytes.new result }
+)
+    requires { live ≤ length active.now }
+    ensures { Examined (λ n. each (examine (chart_in n table.now) p) (adjacent (take live active.now))) book.old bytes.old book.new bytes.new }
 {
-    let mut at = Places { head, end };
     for pair in active[..live].windows(2) {
-        at = examine_two(
-            table, p, pair[0], pair[1], marks, waiting, at.head, bytes, at.end,
-        );
+        examine_two(table, p, pair[0], pair[1], book, bytes);
     }
-    at
 }

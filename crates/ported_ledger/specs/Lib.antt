@@ -1,2 +1,3 @@
 -- What the contracts of the ledger cite beside `ported_arrays`.
 pub mod Views
+pub mod Books

@@ -1,11 +1,10 @@
-// One mark for each pair, and the list of pairs in lent bytes.
+// The pairs of the pieces: a mark for each, those that wait for their crossings, and the list of pairs in lent bytes.
 #![tactic(auto)]
 
 ghost use Rattle.std.specs.Prelude.{◌≡◌, ℕ, ◌≤◌, length, set, get_or, List};
 ghost use Rattle.ported_pieces.specs.Table.{chart_in};
 ghost use Rattle.ported_arrays.specs.Numbers.{cell};
 ghost use Rattle.ported_arrays.specs.Ledger.{put, past, list, wait};
-ghost use Rattle.ported_ledger.specs.Views.{book, ledger};
 
 use charts::MOST;
 
@@ -16,17 +15,25 @@ const WAITING: u8 = 1;
 
 pub const LISTED: u8 = 2;
 
+// A place for every pair.
+pub const PLACES: usize = MOST * (MOST - 1) / 2;
+
+// What is known of the pairs: the mark of each, those that wait, from `head` to the end of their array, and where the list
+// in the lent bytes ends.
+#[derive(Drop)]
+pub struct Book {
+    pub marks: [u8; MOST * MOST],
+    pub waiting: [u16; PLACES],
+    pub head: usize,
+    pub end: usize,
+    pub ghost within: { head ≤ length waiting },
+}
+
 // The number of a pair.
-pub fn cell_of(i: u8, j: u8) -> usize
+fn cell_of(i: u8, j: u8) -> usize
     ensures { result ≡ cell (i, j) }
 {
     i as usize * MOST + j as usize
-}
-
-pub fn mark_at(marks: &[u8], c: usize) -> u8
-    ensures { result ≡ get_or marks.now c 0 }
-{
-    if c < marks.len() { marks[c] } else { FREE }
 }
 
 fn set_mark(marks: &mut [u8], c: usize, mark: u8)
@@ -52,28 +59,36 @@ fn push(bytes: &mut [u8], end: usize, i: u8, j: u8) -> usize
     end + 2
 }
 
-// Pair i, j goes to the end of the list; where that is then.
-pub fn list_pair(marks: &mut [u8], bytes: &mut [u8], end: usize, i: u8, j: u8) -> usize
-    ensures { (w : List ℕ) (s : ℕ) → book marks.new w s bytes.new result ≡ list (i, j) (book marks.old w s bytes.old end) }
-{
-    set_mark(marks, cell_of(i, j), LISTED);
-    push(bytes, end, i, j)
-}
+impl Book {
+    ghost use Rattle.ported_ledger.specs.Books.{ledger_of};
 
-// Pair i, j begins to wait; where the waiting pairs begin then.
-pub fn wait_pair(
-    table: &[i16],
-    i: u8,
-    j: u8,
-    marks: &mut [u8],
-    waiting: &mut [u16],
-    head: usize,
-) -> usize
-    requires { (head ≤ length waiting.old) × (length waiting.old ≤ 65536) }
-    ensures { (result ≤ length waiting.old)
-        × ((n : ℕ) (bytes : List ℕ) (end : ℕ) → ledger marks.new waiting.new result bytes end ≡ wait (chart_in n table.now) (i, j) (ledger marks.old waiting.old head bytes end)) }
-{
-    let c = cell_of(i, j);
-    set_mark(marks, c, WAITING);
-    ported_waiting::wait(table, waiting, head, c as u16)
+    // The mark of pair i, j.
+    pub fn mark_of(&self, i: u8, j: u8) -> u8
+        ensures { result ≡ get_or self.now.marks (cell (i, j)) 0 }
+    {
+        let c = cell_of(i, j);
+        if c < self.marks.len() {
+            self.marks[c]
+        } else {
+            FREE
+        }
+    }
+
+    // Pair i, j goes to the end of the list.
+    pub fn list_pair(&mut self, bytes: &mut [u8], i: u8, j: u8)
+        ensures listed { ledger_of self.new bytes.new ≡ list (i, j) (ledger_of self.old bytes.old) }
+        ensures kept { self.new.waiting ≡ self.old.waiting }
+    {
+        set_mark(&mut self.marks, cell_of(i, j), LISTED);
+        self.end = push(bytes, self.end, i, j);
+    }
+
+    // Pair i, j begins to wait.
+    pub fn wait_pair(&mut self, table: &[i16], i: u8, j: u8)
+        ensures { (n : ℕ) (bytes : List ℕ) → ledger_of self.new bytes ≡ wait (chart_in n table.now) (i, j) (ledger_of self.old bytes) }
+    {
+        let c = cell_of(i, j);
+        set_mark(&mut self.marks, c, WAITING);
+        self.head = ported_waiting::wait(table, &mut self.waiting, self.head, c as u16);
+    }
 }

@@ -1,7 +1,7 @@
 // A run of the ported sweep, below its call in bentley_ottmann: from the first step until the budget or the queue is empty.
 #![tactic(auto)]
 
-ghost use Rattle.std.specs.Prelude.{ℕ, ◌≤◌, ◌<◌, length};
+ghost use Rattle.std.specs.Prelude.{◌≡◌, ℕ, ◌≤◌, ◌<◌, length};
 ghost use Rattle.line_segment.specs.Piece.{HasLength};
 ghost use Rattle.charts.specs.Chart.{most};
 ghost use Rattle.charts.specs.Answer.{room};
@@ -10,11 +10,9 @@ ghost use Rattle.ported_run.specs.Running.{Begun, Stopped};
 
 use charts::MOST;
 use fractions::Point;
+use ported_ledger::{Book, PLACES};
 use ported_run::{Stop, is_empty, last_at, tally};
 use ported_step::step;
-
-// A place for every pair.
-const PLACES: usize = MOST * (MOST - 1) / 2;
 
 // Steps until the budget is spent or the queue is empty.
 fn go(
@@ -22,24 +20,22 @@ fn go(
     ends: &[u16],
     budget: u32,
     active: &mut [u8],
-    marks: &mut [u8],
-    waiting: &mut [u16],
+    book: &mut Book,
     bytes: &mut [u8],
 ) -> Stop
-    requires { (n : ℕ) × Begun n table.now ends.now active.old marks.old waiting.old bytes.old }
-    ensures { (n : ℕ) → Begun n table.now ends.now active.old marks.old waiting.old bytes.old → Stopped n table.now budget bytes.old result bytes.new }
+    requires begun { (n : ℕ) × Begun n table.now ends.now active.old book.old.marks book.old.waiting bytes.old }
+    requires empty { (book.old.head ≡ length book.old.waiting) × (book.old.end ≡ 0) }
+    ensures { (n : ℕ) → Begun n table.now ends.now active.old book.old.marks book.old.waiting bytes.old → Stopped n table.now budget bytes.old result bytes.new }
 {
     let mut passed = 0;
     let mut live = 0;
-    let mut head = waiting.len();
-    let mut end = 0;
     let mut last = Point { x: 0, y: 0, d: 0 };
     let mut examined: u64 = 0;
     for steps in 0..budget {
-        match ported_queue::next_point(table, ends, passed, waiting, head) {
+        match ported_queue::next_point(table, ends, passed, &book.waiting, book.head) {
             None => {
                 return Stop {
-                    end,
+                    end: book.end,
                     steps,
                     ended: true,
                     last: last_at(steps, last),
@@ -47,22 +43,18 @@ fn go(
                 };
             }
             Some(p) => {
-                let at = step(
-                    table, p, ends, passed, active, live, marks, waiting, head, bytes, end,
-                );
+                let at = step(table, p, ends, passed, active, live, book, bytes);
                 passed = at.passed;
                 live = at.live;
-                head = at.head;
-                end = at.end;
                 last = p;
                 examined = tally(examined, at.stay, at.live);
             }
         }
     }
     Stop {
-        end,
+        end: book.end,
         steps: budget,
-        ended: is_empty(table, ends, passed, waiting, head),
+        ended: is_empty(table, ends, passed, &book.waiting, book.head),
         last: last_at(budget, last),
         examined,
     }
@@ -75,17 +67,13 @@ pub fn run(table: &[i16], n: usize, budget: u32, bytes: &mut [u8]) -> Stop
 {
     let mut ends = [0u16; 2 * MOST];
     let mut active = [0u8; MOST];
-    let mut marks = [0u8; MOST * MOST];
-    let mut waiting = [0u16; PLACES];
+    let mut book = Book {
+        marks: [0; MOST * MOST],
+        waiting: [0; PLACES],
+        head: PLACES,
+        end: 0,
+    };
     let count = 2 * n;
     ported_ends::order_ends(table, &mut ends[..count]);
-    go(
-        table,
-        &ends[..count],
-        budget,
-        &mut active,
-        &mut marks,
-        &mut waiting,
-        bytes,
-    )
+    go(table, &ends[..count], budget, &mut active, &mut book, bytes)
 }

@@ -128,11 +128,7 @@ pub record Going (table : List ℤ) (ends active₀ marks₀ waiting₀ bytes₀
   pub spent : steps ≤ budget
   pub within : passed ≤ length ends
   pub lives : live ≤ length active
-  pub heads : head ≤ length waiting
   pub active_long : length active ≡ length active₀
-  pub marks_long : length marks ≡ length marks₀
-  pub waiting_long : length waiting ≡ length waiting₀
-  pub bytes_long : length bytes ≡ length bytes₀
   pub held : (n : ℕ) → Begun n table ends active₀ marks₀ waiting₀ bytes₀
       → sheet n table ends passed active live (ledger marks waiting head bytes end) (last_of steps last) steps
       ≡ onwards (chart_in n table) steps (start (chart_in n table) places bytes₀)
@@ -150,19 +146,15 @@ at_start n table ends active marks waiting bytes last B k =
       steps = 0;
     }
 
-pub begins : (table : List ℤ) (ends active marks waiting bytes : List ℕ) (budget : ℕ) (last : Point)
-    → Going table ends active marks waiting bytes budget active marks waiting bytes 0 0 (length waiting) 0 0 last
-begins table ends active marks waiting bytes budget last =
+pub begins : (table : List ℤ) (ends active marks waiting bytes : List ℕ) (budget : ℕ) (last : Point) {head end : ℕ} → head ≡ length waiting → end ≡ 0
+    → Going table ends active marks waiting bytes budget active marks waiting bytes 0 0 head end 0 last
+begins table ends active marks waiting bytes budget last h e =
     record {
       spent = omega arith;
       within = omega arith;
       lives = omega arith;
-      heads = omega arith;
       active_long = refl;
-      marks_long = refl;
-      waiting_long = refl;
-      bytes_long = refl;
-      held = λ n B. at_start n table ends active marks waiting bytes last B;
+      held = λ n B. rw (h, e) (at_start n table ends active marks waiting bytes last B);
     }
 
 module _ {table : List ℤ} {ends active₀ marks₀ waiting₀ bytes₀ : List ℕ} {budget : ℕ}
@@ -221,23 +213,18 @@ module _ {table : List ℤ} {ends active₀ marks₀ waiting₀ bytes₀ : List 
 
     -- a step is done
     module _ {p : Point} {active' marks' waiting' bytes' : List ℕ} {passed' live' head' end' : ℕ} where
-      pub advances : steps < budget → passed' ≤ length ends → live' ≤ length active → head' ≤ length waiting
-          → length active' ≡ length active → length marks' ≡ length marks → length waiting' ≡ length waiting → length bytes' ≡ length bytes
+      pub advances : steps < budget → passed' ≤ length ends → live' ≤ length active → length active' ≡ length active
           → {r : Option Point} → ((n : ℕ) → r ≡ next_by n table (drop passed ends) (drop head waiting)) → r ≡ Some p
           → ((n : ℕ) (l : maybe.Option Point) (m : ℕ)
           → sheet n table ends passed' active' live' (ledger marks' waiting' head' bytes' end') (some p) (suc m)
           ≡ step_on (chart_in n table) (sheet n table ends passed active live (ledger marks waiting head bytes end) l m) p)
           → Going table ends active₀ marks₀ waiting₀ bytes₀ budget active' marks' waiting' bytes' passed' live' head' end' (steps + 1) p
-      advances h a b c d e f g at is does =
+      advances h a b d at is does =
           record {
             spent = omega arith;
             within = a;
             lives = omega (arith, b, d);
-            heads = omega (arith, c, f);
             active_long = d ∙ G.active_long;
-            marks_long = e ∙ G.marks_long;
-            waiting_long = f ∙ G.waiting_long;
-            bytes_long = g ∙ G.bytes_long;
             held = λ n B. rw (add-one steps, ne_eqb (suc steps) 0 (λ q. absurd (omega (arith, q)))) (does n (last_of steps last) steps ∙ ap (λ (s : Sheet (chart_in n table)). step_on (chart_in n table) s p) (G.held n B) ∙ sym (one_on n B (at n) is));
           }
         where

@@ -7,15 +7,14 @@ ghost use Rattle.ported_step.specs.Turns.{Turning, Fits, Stepping};
 use charts::MOST;
 use fractions::Point;
 use ported_examine::examine_all;
+use ported_ledger::Book;
 use ported_report::report_all;
 
-// How many pieces stayed and are active, where the waiting pairs begin and where the list ends.
+// How many pieces stayed and are active.
 #[derive(Clone, Copy)]
 pub struct Turned {
     pub stay: usize,
     pub live: usize,
-    pub head: usize,
-    pub end: usize,
 }
 
 // Finishing and crossing pieces leave, adjacent pairs are examined; starting and crossing ones enter, the active list is
@@ -30,39 +29,30 @@ fn turn(
     starting: &[u8],
     finishing: &[u8],
     turning: &[u8],
-    marks: &mut [u8],
-    waiting: &mut [u16],
-    head: usize,
+    book: &mut Book,
     bytes: &mut [u8],
-    end: usize,
 ) -> Turned
-    requires { (live ≤ length active.old) × (h ≤ length here.now) × (head ≤ length waiting.old) × (length waiting.old ≤ 65536) }
+    requires { (live ≤ length active.old) × (h ≤ length here.now) }
     ensures { Turning table.now p active.old live here.now h starting.now finishing.now turning.now
-        marks.old waiting.old head bytes.old end active.new marks.new waiting.new bytes.new result }
+        book.old bytes.old active.new book.new bytes.new result }
 {
     let stay = ported_active::leave(active, live, finishing, turning);
-    let first = examine_all(table, p, active, stay, marks, waiting, head, bytes, end);
+    examine_all(table, p, active, stay, book, bytes);
     let now_live = ported_active::enter(active, stay, here, h, starting, finishing, turning);
     ported_active::resort(table, p, active, now_live);
-    let from = first.head;
-    let to = first.end;
-    let second = examine_all(table, p, active, now_live, marks, waiting, from, bytes, to);
+    examine_all(table, p, active, now_live, book, bytes);
     Turned {
         stay,
         live: now_live,
-        head: second.head,
-        end: second.end,
     }
 }
 
-// How many ends are passed, pieces stayed and are active, where the waiting pairs begin and where the list ends.
+// How many ends are passed, pieces stayed and are active.
 #[derive(Clone, Copy)]
 pub struct At {
     pub passed: usize,
     pub stay: usize,
     pub live: usize,
-    pub head: usize,
-    pub end: usize,
 }
 
 // One step, at the least point that is left.
@@ -73,35 +63,47 @@ pub fn step(
     passed: usize,
     active: &mut [u8],
     live: usize,
-    marks: &mut [u8],
-    waiting: &mut [u16],
-    head: usize,
+    book: &mut Book,
     bytes: &mut [u8],
-    end: usize,
 ) -> At
-    requires { Fits ends.now passed active.old live waiting.old head }
-    ensures { Stepping table.now p ends.now passed active.old live marks.old waiting.old head bytes.old end
-        active.new marks.new waiting.new bytes.new result }
+    requires { Fits ends.now passed active.old live book.old }
+    ensures { Stepping table.now p ends.now passed active.old live book.old bytes.old active.new book.new bytes.new result }
 {
     let mut starting = [0u8; MOST];
     let mut finishing = [0u8; MOST];
     let mut turning = [0u8; MOST];
     let mut here = [0u8; MOST];
     let e1 = ported_passing::pass_ends(table, p, ends, passed, &mut starting, &mut finishing);
-    let w1 = ported_passing::pass_crossings(table, p, waiting, head, &mut turning, marks);
-    let h = ported_gather::gather(
-        table, p, ends, passed, e1, waiting, head, w1, active, live, &mut here, MOST,
+    let w1 = ported_passing::pass_crossings(
+        table,
+        p,
+        &book.waiting,
+        book.head,
+        &mut turning,
+        &mut book.marks,
     );
-    let listed = report_all(table, &here, h, marks, bytes, end);
+    let h = ported_gather::gather(
+        table,
+        p,
+        ends,
+        passed,
+        e1,
+        &book.waiting,
+        book.head,
+        w1,
+        active,
+        live,
+        &mut here,
+        MOST,
+    );
+    book.head = w1;
+    report_all(table, &here, h, book, bytes);
     let turned = turn(
-        table, p, active, live, &here, h, &starting, &finishing, &turning, marks, waiting, w1,
-        bytes, listed,
+        table, p, active, live, &here, h, &starting, &finishing, &turning, book, bytes,
     );
     At {
         passed: e1,
         stay: turned.stay,
         live: turned.live,
-        head: turned.head,
-        end: turned.end,
     }
 }

@@ -8,6 +8,8 @@ use native.Mathlib.Omega.{arith}
 use borrow.Author.Tests.{lt-ltb, ltb-true}
 use lib.Dec.{eqb, ltb}
 use lib.IntN.{ℤ}
+use Rattle.std.specs.Prelude.{Some}
+use Rattle.std.proofs.lemmas.Option.{same_Some}
 use Rattle.fractions.specs.Point.{Bounded, whole_of}
 use Rattle.line_segment.specs.Geometry.{LiesOn}
 use Rattle.line_segment.specs.Segment.{contains_of}
@@ -55,7 +57,7 @@ module _ (outline : List ℤ) (x y : ℤ) (n : ℕ) (e : verdict_of outline x y 
   peak : whole_of (corner_at x y).x (corner_at x y).y ≡ whole_of x y
   peak = let k = peak_as_given outline x y n e in ap₂ whole_of k.0 k.1
 
-  pub answer : (region_answer_of outline x y).region ≡ region_of outline n (corner_at x y)
+  pub answer : (region_answer_of outline x y).region ≡ Some (region_of outline n (corner_at x y))
   unfolding region_answer_of
   answer = rw e
 
@@ -68,15 +70,15 @@ module _ (outline : List ℤ) (x y : ℤ) (n : ℕ) (e : verdict_of outline x y 
       let k = contains_exactly (side_of outline n i) (whole_of x y) (sides_have_length outline x y n i e l) (omega arith) bounded in
       ((λ h. k.0 (ap (contains_of (side_of outline n i)) (sym peak) ∙ h)), (λ h. ap (contains_of (side_of outline n i)) peak ∙ k.1 h))
 
-  on_some : (region_answer_of outline x y).region ≡ Region.On → OnSome outline n x y
+  on_some : (region_answer_of outline x y).region ≡ Some Region.On → OnSome outline n x y
   unfolding region_of
   on_some h =
-      let s = some (on_side outline n (corner_at x y)) n (asked _ (parity (count (met_side outline n (corner_at x y)) n)) (not_on (count (met_side outline n (corner_at x y)) n)) (sym answer ∙ h)) in
+      let s = some (on_side outline n (corner_at x y)) n (asked _ (parity (count (met_side outline n (corner_at x y)) n)) (not_on (count (met_side outline n (corner_at x y)) n)) (same_Some _ _ (sym answer ∙ h))) in
       (s.0, s.1, (held s.0 s.1).0 s.2)
 
-  some_on : OnSome outline n x y → (region_answer_of outline x y).region ≡ Region.On
+  some_on : OnSome outline n x y → (region_answer_of outline x y).region ≡ Some Region.On
   unfolding region_of
-  some_on s = answer ∙ rw (any (on_side outline n (corner_at x y)) n s.0 s.1 ((held s.0 s.1).1 s.2))
+  some_on s = answer ∙ ap Some (rw (any (on_side outline n (corner_at x y)) n s.0 s.1 ((held s.0 s.1).1 s.2)))
 
 pub on_exactly : OnExactly
 on_exactly outline x y n e = (on_some outline x y n e, some_on outline x y n e)

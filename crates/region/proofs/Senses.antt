@@ -344,4 +344,4 @@ module _ (outline : List ℤ) (x y : ℤ) (n : ℕ) (e : verdict_of outline x y 
           (λ i l on. clash (sym q ∙ any (on_side outline (suc m) (corner_at x y)) (suc m) i l ((held outline x y (suc m) d i l).1 on)))
 
 pub senses_exchanged : SensesExchanged
-senses_exchanged outline x y n e = on_or_not outline x y n e _ refl ∙ sym (answer outline x y n e)
+senses_exchanged outline x y n e = ap Some (on_or_not outline x y n e _ refl) ∙ sym (answer outline x y n e)

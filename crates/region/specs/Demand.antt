@@ -24,7 +24,7 @@ OnSome outline n x y = (i : ℕ) × (i < n) × LiesOn (side_of outline n i) (who
 abbrev pub OnExactly : Type 0
 OnExactly =
     (outline : List ℤ) (x y : ℤ) (n : ℕ) → verdict_of outline x y ≡ Accepted n
-    → ((region_answer_of outline x y).region ≡ Region.On) ↔ OnSome outline n x y
+    → ((region_answer_of outline x y).region ≡ Some Region.On) ↔ OnSome outline n x y
 
 -- ---- the even-odd rule, over geometry alone
 -- an end is above the peak's height
@@ -83,4 +83,4 @@ other_sense outline n p =
 abbrev pub SensesExchanged : Type 0
 SensesExchanged =
     (outline : List ℤ) (x y : ℤ) (n : ℕ) → verdict_of outline x y ≡ Accepted n
-    → other_sense outline n (corner_at x y) ≡ (region_answer_of outline x y).region
+    → Some (other_sense outline n (corner_at x y)) ≡ (region_answer_of outline x y).region

@@ -6,8 +6,7 @@ use Rattle.c_records.specs.Regions.{located_of}
 use Rattle.chart_c.proofs.mirtalughe_region.Goals as goal
 
 pub returns : goal.returns
-unfolding located_of
 returns c =
     let a = c.args in
     let f = c.ranges in
-    rw c.region_number.ensures (ap located_of (c.locate-answer.ensures ∙ ap₂ (region_answer_of a.outline.now) (to_z-of_z f.x) (to_z-of_z f.y)))
+    c.located_fields.ensures ∙ ap located_of (c.locate.ensures ∙ ap₂ (region_answer_of a.outline.now) (to_z-of_z f.x) (to_z-of_z f.y))

@@ -15,33 +15,24 @@ loop-pair-init c =
     let same = c.into_iter-pair-iterator.ensures.into_iter_gives in
     let size : windows_size c.into_iter-pair-iterator.result ≡ 2 = rw same c.windows-pair-items.ensures.size in
     let all : windows_rest c.into_iter-pair-iterator.result ≡ take c.args.live c.args.active.now = rw same c.windows-pair-items.ensures.rest in
-    (omega (arith, size), tt, size, c.requires.1, λ n. rw all refl)
-
-pub examine_two-at-requires : goal.examine_two-at-requires
-examine_two-at-requires c =
-    (omega (arith, c.loop-pair.invariant.3, c.loop-pair.auto.waiting), omega (arith, c.loop-pair.auto.waiting, c.requires.2))
+    (omega (arith, size), tt, size, λ n. rw all refl)
 
 pub loop-pair-preserved : goal.loop-pair-preserved
 loop-pair-preserved c =
     let i = c.loop-pair.invariant in
     let t = c.in-Some.ensures.steps in
-    let e = c.examine_two-at.ensures in
     let size : windows_size c.next.new.self ≡ 2 = t.0 ∙ i.2 in (
       omega (arith, size),
       tt,
       size,
-      omega (arith, e.heads, c.loop-pair.auto.waiting),
       λ n.
           let f = examine (chart_in n c.args.table.now) c.args.p in
-          i.4 n
+          i.3 n
           ∙ adjacent_step f (windows_rest c.loop-pair.pair-iterator) c.in-Some.pair.now (windows_rest c.next.new.self) (windows_size c.loop-pair.pair-iterator) _ i.2 t.1.0 t.1.1 t.1.2
-          ∙ ap (each f (adjacent (windows_rest c.next.new.self))) (sym (e.books n)),
+          ∙ ap (each f (adjacent (windows_rest c.next.new.self))) (sym (c.examine_two.ensures n)),
     )
 
 pub returns : goal.returns
-returns c =
+returns c n =
     let i = c.loop-pair.invariant in
-    record {
-      heads = i.3;
-      books = λ n. sym (i.4 n ∙ adjacent_end (examine (chart_in n c.args.table.now) c.args.p) (windows_rest c.loop-pair.pair-iterator) _ (omega (arith, i.2, c.in-None.ensures.steps.1.0)));
-    }
+    sym (i.3 n ∙ adjacent_end (examine (chart_in n c.args.table.now) c.args.p) (windows_rest c.loop-pair.pair-iterator) _ (omega (arith, i.2, c.in-None.ensures.steps.1.0)))

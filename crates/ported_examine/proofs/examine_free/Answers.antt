@@ -8,15 +8,13 @@ use Rattle.ported_examine.proofs.examine_free.Goals as goal
 
 pub returns-in-Nothing : goal.returns-in-Nothing
 unfolding examine_free
-returns-in-Nothing c =
-    record { heads = c.requires.0; books = λ n. free_by (chart_in n c.args.table.now) c.args.p (c.args.i, c.args.j) _ (ap kind_of (sym c.test.ensures ∙ c.in-Nothing.is)) }
+returns-in-Nothing c n = free_by (chart_in n c.args.table.now) c.args.p (c.args.i, c.args.j) _ (ap kind_of (sym c.test.ensures ∙ c.in-Nothing.is))
 
 pub returns-in-Crossing : goal.returns-in-Crossing
-returns-in-Crossing c =
-    let e = c.examine_crossing.ensures in
-    record { heads = e.heads; books = λ n. e.books n ∙ free_by _ c.args.p _ _ (ap kind_of (sym c.test.ensures ∙ c.in-Crossing.is)) }
+returns-in-Crossing c n =
+    c.examine_crossing.ensures n ∙ free_by _ c.args.p _ _ (ap kind_of (sym c.test.ensures ∙ c.in-Crossing.is))
 
 pub returns-in-Overlap : goal.returns-in-Overlap
 unfolding examine_free
-returns-in-Overlap c =
-    record { heads = c.requires.0; books = λ n. c.list_pair.ensures _ _ ∙ free_by (chart_in n c.args.table.now) c.args.p (c.args.i, c.args.j) _ (ap kind_of (sym c.test.ensures ∙ c.in-Overlap.is)) }
+returns-in-Overlap c n =
+    c.list_pair.ensures.listed ∙ free_by (chart_in n c.args.table.now) c.args.p (c.args.i, c.args.j) _ (ap kind_of (sym c.test.ensures ∙ c.in-Overlap.is))

@@ -10,8 +10,8 @@ use Rattle.ported_loop.proofs.go.Goals as goal
 
 pub loop-steps-init : goal.loop-steps-init
 loop-steps-init c = let a = c.args in (
-  begins a.table.now a.ends.now a.active.now a.marks.now a.waiting.now a.bytes.now a.budget _,
-  tallies_none a.table.now a.ends.now a.active.now a.marks.now a.waiting.now a.bytes.now,
+  begins a.table.now a.ends.now a.active.now a.book.now.marks a.book.now.waiting a.bytes.now a.budget _ c.requires.empty.0 c.requires.empty.1,
+  tallies_none a.table.now a.ends.now a.active.now a.book.now.marks a.book.now.waiting a.bytes.now,
 )
 
 pub returns-in-None : goal.returns-in-None
@@ -22,15 +22,13 @@ returns-in-None c n B =
 pub step-at-requires : goal.step-at-requires
 step-at-requires c =
     let G = c.loop-steps.invariant.0 in
-    let B = c.requires in
+    let B = c.requires.begun in
     record {
       passes = G.within;
       ends_few = omega (arith, B.1.count, B.1.few);
       ends_left = ends_left G B.0 B.1;
       lives = G.lives;
       full = G.active_long ∙ B.1.actives;
-      heads = G.heads;
-      waiting_few = omega (arith, G.waiting_long, B.1.waits);
       waiting_left = waiting_left G B.0 B.1;
     }
 
@@ -38,7 +36,7 @@ pub tally-examined-requires : goal.tally-examined-requires
 tally-examined-requires c =
     let i = c.loop-steps.invariant in
     let w = c.step-at.ensures.0 in
-    let full = i.0.active_long ∙ c.requires.1.actives in
+    let full = i.0.active_long ∙ c.requires.begun.1.actives in
     (omega (arith, i.1.few, i.0.spent, c.ranges.budget), omega (arith, w.fewer, full), omega (arith, w.lives, full))
 
 pub loop-steps-preserved : goal.loop-steps-preserved
@@ -48,10 +46,8 @@ loop-steps-preserved c =
     let w = s.0 in
     let at = c.next_point.ensures in
     let is = c.in-Some.is in (
-      advances i.0 (omega (arith, c.loop-steps-test.true)) w.passed w.lives w.heads
-          c.step-at.auto.active c.step-at.auto.marks c.step-at.auto.waiting c.step-at.auto.bytes
-          at is s.1.does,
-      tallies i.0 i.1 (i.0.active_long ∙ c.requires.1.actives) w.fewer w.lives at is s.1
+      advances i.0 (omega (arith, c.loop-steps-test.true)) w.passed w.lives c.step-at.auto.active at is s.1.does,
+      tallies i.0 i.1 (i.0.active_long ∙ c.requires.begun.1.actives) w.fewer w.lives at is s.1
           (λ n. length-take-le _ _ (omega (arith, w.lives, c.step-at.auto.active))) c.tally-examined.ensures,
     )
 

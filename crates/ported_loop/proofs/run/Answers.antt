@@ -15,8 +15,8 @@ slice_bounds-ends-end-2 c = front_within c.args.n c.requires.0 c.order_ends.new.
 pub slice_bounds-go-end : goal.slice_bounds-go-end
 slice_bounds-go-end c = front_long c.args.n c.requires.0 c.order_ends.new.ends c.order_ends.auto.ends
 
-pub go-requires : goal.go-requires
-go-requires c = (c.args.n, begun c.args.n c.requires.0 _ c.order_ends.auto.ends c.args.table.now c.args.bytes.now c.requires.1 c.requires.2 (c.order_ends.ensures c.args.n))
+pub go-requires-clause-begun : goal.go-requires-clause-begun
+go-requires-clause-begun c = (c.args.n, begun c.args.n c.requires.0 _ c.order_ends.auto.ends c.args.table.now c.args.bytes.now c.requires.1 c.requires.2 (c.order_ends.ensures c.args.n))
 
 pub returns : goal.returns
 returns c =
