@@ -9,7 +9,7 @@ ghost use Rattle.c_records.specs.Numbers.{turn_number};
 ghost use Rattle.c_records.specs.Meetings.{end_fields, met_as};
 ghost use Rattle.c_records.specs.Places.{placed_as};
 ghost use Rattle.region.specs.Region.{region_told};
-ghost use Rattle.c_records.specs.Regions.{region_number, located_of, half_met_as};
+ghost use Rattle.c_records.specs.Regions.{region_by, located_of, half_met_as};
 
 use bentley_ottmann::Swept;
 use charts::Refusal;
@@ -205,7 +205,8 @@ pub fn swept_fields(s: Swept, last: Option<Point>) -> SweptFields
     }
 }
 
-fn fault_number(fault: EntryFault) -> usize
+// A match: the number is C's, as a turn's is.
+pub fn fault_number(fault: EntryFault) -> usize
     ensures { result ≡ number_of fault }
 {
     match fault {
@@ -262,13 +263,14 @@ pub fn turn_number(o: Orientation) -> i8
 
 // A match: the number is C's, and no `From` for u8 may be written outside the region's crate.
 #[tactic(auto, unfolding(crate::specs::Regions::region_number))]
-pub fn region_number(r: Region) -> u8
-    ensures { result ≡ region_number r }
+pub fn region_number(r: Option<Region>) -> u8
+    ensures { result ≡ region_by r }
 {
     match r {
-        Region::On => 1,
-        Region::Inside => 2,
-        Region::Outside => 3,
+        None => 0,
+        Some(Region::On) => 1,
+        Some(Region::Inside) => 2,
+        Some(Region::Outside) => 3,
     }
 }
 
@@ -280,12 +282,12 @@ pub fn located_fields(answer: Result<Region, Refusal>) -> Located
         Ok(region) => Located {
             number: 0,
             place: 0,
-            region: region_number(region),
+            region: region_number(Some(region)),
         },
         Err(refusal) => Located {
             number: refusal.reason.number(),
             place: refusal.place,
-            region: 0,
+            region: region_number(None),
         },
     }
 }

@@ -7,6 +7,8 @@ use mathlib.Core.List.{List}
 use Prim.Native.Nat.{ℕ}
 use Rattle.integers.specs.Outcome.{OneResult, OneOutcome}
 use Rattle.charts.proofs.Refusals.{told_named, fault_named}
+use Rattle.charts.proofs.Reason.number.Reads as number
+use Rattle.charts.proofs.Reason.at.Reads as at
 use Rattle.chart_verdict.proofs.room_of.Reads as room_of
 use Rattle.open_changes.proofs.is_used.Reads as is_used
 use Rattle.supplied_missing.proofs.first_missing.Reads as first_missing
@@ -31,6 +33,7 @@ use Rattle.batch_chart.proofs.sweep_chart.Reads as sweep_chart
 use Rattle.c_records.proofs.fields.Reads as fields
 use Rattle.c_records.proofs.values.Reads as values
 use Rattle.c_records.proofs.swept_fields.Reads as swept_fields
+use Rattle.c_records.proofs.fault_number.Reads as fault_number
 use Rattle.c_records.proofs.checked_fields.Reads as checked_fields
 use Rattle.c_records.proofs.turn_number.Reads as turn_number
 use Rattle.c_records.proofs.region_number.Reads as region_number
@@ -38,6 +41,12 @@ use Rattle.c_records.proofs.located_fields.Reads as located_fields
 use Rattle.c_records.proofs.half_met.Reads as half_met
 
 -- ---- charts and the open chart
+pub number_once : OneResult number.Post
+number_once κ a x y s t h k = h ∙ sym k
+
+pub at_once : OneResult at.Post
+at_once κ a x y s t h k = h ∙ sym k
+
 pub room_of_once : OneResult room_of.Post
 room_of_once κ a x y s t h k = h ∙ sym k
 
@@ -115,6 +124,9 @@ values_once κ a x y s t h k = h ∙ sym k
 
 pub swept_fields_once : OneResult swept_fields.Post
 swept_fields_once κ a x y s t h k = h ∙ sym k
+
+pub fault_number_once : OneResult fault_number.Post
+fault_number_once κ a x y s t h k = h ∙ sym k
 
 pub checked_fields_once : OneResult checked_fields.Post
 checked_fields_once κ a x y s t h k = h ∙ sym k
