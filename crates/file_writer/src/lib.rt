@@ -1,7 +1,7 @@
 // The chart file's writer: a list of numbers goes out as the file that the reader takes it from.
 #![tactic(auto)]
 
-ghost use Rattle.std.specs.Prelude.{◌≡◌, ◌+◌, ◌≤◌, length};
+ghost use Rattle.std.specs.Prelude.{◌≡◌, ◌+◌, ◌%◌, ◌≤◌, length};
 ghost use Rattle.std.proofs.lemmas.List.Edits.{sets};
 ghost use Rattle.charts.specs.Refusal.{told};
 ghost use Rattle.chart_file.specs.Format.{bytes_from};
@@ -10,17 +10,16 @@ ghost use Rattle.chart_writer.specs.Writing.{InRanges, writing_of, Writes};
 use chart_file::LONGEST;
 use charts::{Answer, Reason, Refusal};
 
-// Writes the numbers of a list from a place on, a kind plainly and a coordinate in groups; the place after them.
+// Writes the pieces of a list from a place on, a kind plainly and a coordinate in groups; the place after them.
 fn put_numbers(list: &[i32], out: &mut [u8], at: usize) -> usize
-    requires { InRanges list.now × (at + length (bytes_from 0 list.now) ≤ length out.old) }
+    requires { (length list.now % 5 ≡ 0) × InRanges list.now × (at + length (bytes_from 0 list.now) ≤ length out.old) }
     ensures { (result ≡ at + length (bytes_from 0 list.now)) × (out.new ≡ sets out.old at (bytes_from 0 list.now)) }
 {
     let mut next = at;
-    for (i, v) in list.iter().enumerate() {
-        if i % 5 == 0 {
-            out[next] = *v as u8;
-            next += 1;
-        } else {
+    for piece in list.as_chunks::<5>().0 {
+        out[next] = piece[0] as u8;
+        next += 1;
+        for v in &piece[1..] {
             next = file_groups::put_groups(file_groups::stored(*v), out, next);
         }
     }

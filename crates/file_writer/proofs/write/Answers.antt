@@ -7,7 +7,7 @@ use lib.IntN.{ℤ}
 use lib.ListN.{length, length-append}
 use lib.Seq.{sets, length-sets}
 use Rattle.chart_file.specs.Format.{bytes_from, count_of}
-use Rattle.chart_writer.proofs.Outcomes.{Goes, goes, writes_refused, writes_done}
+use Rattle.chart_writer.proofs.Outcomes.{accepted_fives, Goes, goes, writes_refused, writes_done}
 use Rattle.file_writer.proofs.write.Goals as goal
 
 -- two runs of stores leave the length as it was
@@ -32,7 +32,7 @@ pub put_numbers-requires : goal.put_numbers-requires
 put_numbers-requires c =
     let a = c.args in
     let g = goes c.args.list.now c.args.out.now c.in-Ok.n (sym c.in-Ok.ensures) in
-    (g.ranges, omega (arith, c.put_groups-next.ensures.0, room _ _ _ g, ap length c.put_groups-next.ensures.1, length-sets a.out.now 0 (count_of c.in-Ok.n)))
+    (omega (arith, accepted_fives a.list.now c.in-Ok.n g.accepted), g.ranges, omega (arith, c.put_groups-next.ensures.0, room _ _ _ g, ap length c.put_groups-next.ensures.1, length-sets a.out.now 0 (count_of c.in-Ok.n)))
 
 pub returns-in-Err : goal.returns-in-Err
 returns-in-Err c =
