@@ -6,10 +6,9 @@ ghost use Rattle.charts.specs.Chart.{verdict_of};
 ghost use Rattle.charts.specs.Answer.{room};
 ghost use Rattle.charts.specs.Piece.{piece_at};
 ghost use Rattle.charts.specs.Verdict.{Accepted};
-ghost use Rattle.charts.specs.Refusal.{number};
 ghost use Rattle.bentley_ottmann.specs.Swept.{swept_by, listed_over, refused_with, sweep_of, lent_after};
 
-use charts::{MOST, Refusal};
+use charts::MOST;
 use fractions::Point;
 
 // What a sweep returns; `pairs` is the count of those listed.
@@ -30,12 +29,12 @@ pub struct Swept {
 }
 
 // A refusal, in either mode.
-pub fn refused(refusal: Refusal) -> Swept
-    ensures { result ≡ refused_with (number refusal.reason) refusal.place }
+pub fn refused(number: u8, place: usize) -> Swept
+    ensures { result ≡ refused_with number place }
 {
     Swept {
-        number: refusal.reason.number(),
-        place: refusal.place,
+        number,
+        place,
         pairs: 0,
         steps: 0,
         ended: false,
@@ -72,7 +71,7 @@ pub fn sweep(list: &[i32], budget: u32, pairs: &mut [u8]) -> Swept
     ensures { (result ≡ sweep_of list.now budget (length pairs.old)) × (pairs.new ≡ lent_after list.now budget pairs.old) }
 {
     match chart_verdict::listing_of(list, pairs.len()) {
-        Err(refusal) => refused(refusal),
+        Err(refusal) => refused(refusal.reason.number(), refusal.place),
         Ok(n) => sweep_pieces(list, n, budget, pairs),
     }
 }

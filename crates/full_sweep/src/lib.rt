@@ -37,7 +37,7 @@ pub fn sweep(list: &[i32], budget: u32, pairs: &mut [u8]) -> Swept
     ensures { (result ≡ sweep_of list.now budget (length pairs.old)) × (pairs.new ≡ lent_after list.now budget pairs.old) }
 {
     match chart_verdict::listing_of(list, pairs.len()) {
-        Err(refusal) => bentley_ottmann::refused(refusal),
+        Err(refusal) => bentley_ottmann::refused(refusal.reason.number(), refusal.place),
         Ok(n) => sweep_pieces(list, n, budget, pairs),
     }
 }

@@ -12,7 +12,7 @@ sweep_pieces-requires c =
 pub returns-in-Err : goal.returns-in-Err
 returns-in-Err c =
     let t = refused_outcome c.args.list.now c.args.budget c.args.pairs.now _ _ (sym c.in-Err.ensures) in
-    (c.refused.ensures ∙ t.0, t.1)
+    ((rw c.number.ensures at c.refused.ensures) ∙ t.0, t.1)
 
 pub returns-in-Ok : goal.returns-in-Ok
 returns-in-Ok c =
