@@ -1,12 +1,12 @@
 // The least of the lanes, by key, and exactly where two keys are equal.
 #![tactic(auto)]
 
-ghost use Rattle.std.specs.Prelude.{◌≡◌, ◌+◌, ◌<◌, length};
+ghost use Rattle.std.specs.Prelude.{◌≡◌, ◌+◌, ◌<◌, ◌≤◌, length};
 ghost use Rattle.fractions.specs.Point.{point_order, whole_of};
 ghost use Rattle.sweep.specs.Lists.{lesser_first};
 ghost use Rattle.sweep.specs.Ported.{is_less};
 ghost use Rattle.ported_pieces.specs.Table.{rough_at};
-ghost use Rattle.full_lanes.specs.Lanes.{no_key, meeting_at, Taken, Keyed, LeastLane, Newer};
+ghost use Rattle.full_lanes.specs.Lanes.{no_key, meeting_at, Taken, Keyed, LeastLane, Newer, Candidate};
 
 use fractions::Point;
 use full_lanes::NONE;
@@ -49,6 +49,15 @@ fn comes_first(table: &[i16], active: &[u8], k: usize, key: u32, at: usize, leas
     less(meeting_at(table, active, k), meeting_at(table, active, at))
 }
 
+// The first place from `from` on whose key is no greater than `least`; `live` where all are.
+fn next_candidate(lanes: &[u32], from: usize, live: usize, least: u32) -> usize
+    requires { (from ≤ live) × (live ≤ length lanes.now) }
+    ensures { Candidate lanes.now from live least result }
+{
+    let behind = lanes[from..live].iter();
+    from + behind.take_while(|key| least < **key).count()
+}
+
 // The lane of the least crossing, or `live` where none is taken.
 pub fn least_lane(table: &[i16], active: &[u8], lanes: &[u32], live: usize) -> usize
     requires { Keyed table.now active.now lanes.now live }
@@ -57,11 +66,14 @@ pub fn least_lane(table: &[i16], active: &[u8], lanes: &[u32], live: usize) -> u
     let mut at = live;
     let mut least = NONE;
     let keys = &lanes[..live];
-    for (k, key) in keys.iter().enumerate() {
-        if *key <= least && comes_first(table, active, k, *key, at, least) {
+    let mut k = 0;
+    while k < live {
+        let key = keys[k];
+        if comes_first(table, active, k, key, at, least) {
             at = k;
-            least = *key;
+            least = key;
         }
+        k = next_candidate(keys, k + 1, live, least);
     }
     at
 }
