@@ -13,10 +13,17 @@ use orientation::Orientation;
 use std::cmp::Ordering;
 
 // Which of two ends comes first, by x, then y.
+// by hand: to compare the two as pairs of numbers takes half as much again
 fn end_order(a: EndPoint, b: EndPoint) -> Ordering
     ensures { result ≡ end_order a b }
 {
-    (a.x, a.y).cmp(&(b.x, b.y))
+    if a.x < b.x {
+        Ordering::Less
+    } else if b.x < a.x {
+        Ordering::Greater
+    } else {
+        a.y.cmp(&b.y)
+    }
 }
 
 // The piece between two ends, each with its mark.
@@ -93,6 +100,7 @@ pub fn inner_between(p: EndPoint, a: EndPoint, b: EndPoint) -> bool
 }
 
 // Two pieces of one line: the stretch from the rightmost min to the leftmost max.
+// a match: both marks are read only where the two ends are one point
 fn stretch(a: LineSegment, b: LineSegment) -> Meeting
     ensures { result ≡ stretch_of a b }
 {
@@ -102,10 +110,16 @@ fn stretch(a: LineSegment, b: LineSegment) -> Meeting
         min: left,
         max: right,
     };
-    if allows(end_order(left, right), right.included && left.included) {
-        Meeting::Overlap(s)
-    } else {
-        Meeting::Nothing
+    match end_order(left, right) {
+        Ordering::Less => Meeting::Overlap(s),
+        Ordering::Equal => {
+            if right.included && left.included {
+                Meeting::Overlap(s)
+            } else {
+                Meeting::Nothing
+            }
+        }
+        Ordering::Greater => Meeting::Nothing,
     }
 }
 

@@ -1,27 +1,30 @@
--- `segment_test::stretch` meets its contract: both marks are asked where the two ends are one point.
-use mathlib.Core.Path.{◌≡◌, sym, ap, ◌∙◌}
-use mathlib.Core.Bool.{Bool, ◌&&◌}
-use Rattle.line_segment.specs.Segment.{stretch_of}
+-- `segment_test::stretch` meets its contract: each arm knows the order of the two ends of the stretch.
+use mathlib.Core.Path.{◌≡◌, refl, sym}
+use Rattle.std.specs.declared.cmp.Ordering.TheVariants.{Equal}
+use Rattle.line_segment.specs.Segment.{stretch_of, stretch_by}
 use Rattle.line_segment.proofs.Answers.{stretch_yes, stretch_no}
 use Rattle.segment_test.proofs.stretch.Goals as goal
-use Rattle.segment_test.proofs.stretch.Goals.{After-allows, then-right, else-right}
+use Rattle.segment_test.proofs.stretch.Goals.{else-right-via-then-right+else-left, else-right-via-else-right}
 
-marks : (c : After-allows) → c.if-right.allows ≡ (c.leftmost-right.result.included && c.rightmost-left.result.included)
-marks c =
-    let left = c.rightmost-left.result.included in
-    elim c.if-right.branch [
-      | then-right w ↦ w.allows-is ∙ ap (λ (b : Bool). b && left) (sym w.if-right.true)
-      | else-right w ↦ w.allows-is ∙ w.if-right.false ∙ ap (λ (b : Bool). b && left) (sym w.if-right.false)
-    ]
+pub returns-in-Less : goal.returns-in-Less
+unfolding stretch_of stretch_by
+returns-in-Less c = rw (← c.rightmost-left.ensures, ← c.leftmost-right.ensures, ← c.end_order.ensures, c.in-Less.is)
 
-pub returns-then-allows : goal.returns-then-allows
+pub returns-then-left : goal.returns-then-left
 unfolding stretch_of
-returns-then-allows c =
-    rw (← c.rightmost-left.ensures, ← c.leftmost-right.ensures, ← c.end_order.ensures)
-    (stretch_yes _ _ (rw (marks c.before) at (sym c.allows.ensures ∙ c.if-allows.true)))
+returns-then-left c =
+    rw (← c.rightmost-left.ensures, ← c.leftmost-right.ensures, ← c.end_order.ensures, c.in-Equal.is)
+    (stretch_yes Equal _ (rw (c.if-right.true, c.if-left.true) refl))
 
-pub returns-else-allows : goal.returns-else-allows
+pub returns-else-right : goal.returns-else-right
 unfolding stretch_of
-returns-else-allows c =
-    rw (← c.rightmost-left.ensures, ← c.leftmost-right.ensures, ← c.end_order.ensures)
-    (stretch_no _ _ (rw (marks c.before) at (sym c.allows.ensures ∙ c.if-allows.false)))
+returns-else-right c =
+    rw (← c.rightmost-left.ensures, ← c.leftmost-right.ensures, ← c.end_order.ensures, c.in-Equal.is)
+    (elim c.else-right.branch [
+      | else-right-via-then-right+else-left w ↦ stretch_no Equal _ (rw (w.if-right.true, w.if-left.false) refl)
+      | else-right-via-else-right w ↦ stretch_no Equal _ (rw w.if-right.false refl)
+    ])
+
+pub returns-in-Greater : goal.returns-in-Greater
+unfolding stretch_of stretch_by
+returns-in-Greater c = rw (← c.rightmost-left.ensures, ← c.leftmost-right.ensures, ← c.end_order.ensures, c.in-Greater.is)
