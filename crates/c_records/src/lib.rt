@@ -295,18 +295,19 @@ pub fn located_fields(answer: Result<Region, Refusal>) -> Located
 pub fn half_met(number: u8, meeting: Option<Orientation>) -> HalfMet
     ensures { result ≡ half_met_as number meeting }
 {
-    let nothing = HalfMet {
-        number,
-        place: 0,
-        meets: 0,
-        turn: 0,
-    };
+    // each whole: what is copied from another record is copied with its spare bytes
     match meeting {
-        None => nothing,
+        None => HalfMet {
+            number,
+            place: 0,
+            meets: 0,
+            turn: 0,
+        },
         Some(o) => HalfMet {
+            number,
+            place: 0,
             meets: 1,
             turn: turn_number(o),
-            ..nothing
         },
     }
 }
