@@ -121,27 +121,31 @@ impl From<EndPoint> for End {
     }
 }
 
+// each whole, here and below: what is copied from another record is copied with its spare bytes
 pub fn fields(number: u8, place: usize, meeting: Meeting) -> Met
     ensures { result ≡ met_as number place meeting }
 {
-    let nothing = Met {
-        number,
-        place,
-        meets: 0,
-        min: NO_END,
-        max: NO_END,
-    };
     match meeting {
-        Meeting::Nothing => nothing,
+        Meeting::Nothing => Met {
+            number,
+            place,
+            meets: 0,
+            min: NO_END,
+            max: NO_END,
+        },
         Meeting::Crossing => Met {
+            number,
+            place,
             meets: 1,
-            ..nothing
+            min: NO_END,
+            max: NO_END,
         },
         Meeting::Overlap(stretch) => Met {
+            number,
+            place,
             meets: 2,
             min: stretch.min.into(),
             max: stretch.max.into(),
-            ..nothing
         },
     }
 }
@@ -149,30 +153,33 @@ pub fn fields(number: u8, place: usize, meeting: Meeting) -> Met
 pub fn values(number: u8, place: usize, meeting: Place) -> Placed
     ensures { result ≡ placed_as number place meeting }
 {
-    let nothing = Placed {
-        number,
-        place,
-        meets: 0,
-        x1: 0.0,
-        y1: 0.0,
-        x2: 0.0,
-        y2: 0.0,
-    };
     match meeting {
-        Place::Nothing => nothing,
+        Place::Nothing => Placed {
+            number,
+            place,
+            meets: 0,
+            x1: 0.0,
+            y1: 0.0,
+            x2: 0.0,
+            y2: 0.0,
+        },
         Place::At(p) => Placed {
+            number,
+            place,
             meets: 1,
             x1: p.x,
             y1: p.y,
-            ..nothing
+            x2: 0.0,
+            y2: 0.0,
         },
         Place::Along(p, q) => Placed {
+            number,
+            place,
             meets: 2,
             x1: p.x,
             y1: p.y,
             x2: q.x,
             y2: q.y,
-            ..nothing
         },
     }
 }
@@ -295,7 +302,6 @@ pub fn located_fields(answer: Result<Region, Refusal>) -> Located
 pub fn half_met(number: u8, meeting: Option<Orientation>) -> HalfMet
     ensures { result ≡ half_met_as number meeting }
 {
-    // each whole: what is copied from another record is copied with its spare bytes
     match meeting {
         None => HalfMet {
             number,
