@@ -2,7 +2,6 @@
 #![tactic(auto)]
 
 ghost use Rattle.std.specs.Prelude.{◌≡◌};
-ghost use Rattle.supplied.specs.Entries.{number_of};
 ghost use Rattle.c_records.specs.Sweeps.{swept_as};
 ghost use Rattle.c_records.specs.Checks.{checked_as};
 ghost use Rattle.c_records.specs.Numbers.{turn_number};
@@ -18,7 +17,7 @@ use line_segment::{EndPoint, Meeting};
 use orientation::Orientation;
 use place::Place;
 use region::Region;
-use supplied::{Checked, EntryFault};
+use supplied::Checked;
 
 // An end of a stretch.
 #[repr(C)]
@@ -121,7 +120,7 @@ impl From<EndPoint> for End {
     }
 }
 
-// each whole, here and below: what is copied from another record is copied with its spare bytes
+// each whole, as in `values` and `half_met`: what is copied from another record is copied with its spare bytes
 pub fn fields(number: u8, place: usize, meeting: Meeting) -> Met
     ensures { result ≡ met_as number place meeting }
 {
@@ -212,18 +211,6 @@ pub fn swept_fields(s: Swept, last: Option<Point>) -> SweptFields
     }
 }
 
-// A match: the number is C's, as a turn's is.
-pub fn fault_number(fault: EntryFault) -> usize
-    ensures { result ≡ number_of fault }
-{
-    match fault {
-        EntryFault::NoPiece => 1,
-        EntryFault::Itself => 2,
-        EntryFault::Apart => 3,
-        EntryFault::Repeated => 4,
-    }
-}
-
 pub fn checked_fields(checked: Checked) -> CheckedFields
     ensures { result ≡ checked_as checked }
 {
@@ -239,7 +226,7 @@ pub fn checked_fields(checked: Checked) -> CheckedFields
         Checked::Fault(first, fault) => CheckedFields {
             says: 2,
             first,
-            second: fault_number(fault),
+            second: fault,
             ..nothing
         },
         Checked::Missing(first, second) => CheckedFields {

@@ -2,12 +2,12 @@
 -- Assumes nothing.
 use mathlib.Core.Path.{◌≡◌, refl, sym, ap, ◌∙◌}
 use mathlib.Core.List.{List, [], ◌∷◌, ◌++◌}
-use Prim.Native.Nat.{ℕ, suc, ◌+◌, ◌≤◌, ◌<◌}
+use Prim.Native.Nat.{ℕ, suc, ◌+◌, ◌-◌, ◌≤◌, ◌<◌}
 use native.Mathlib.Nat.{zero-add}
 use native.Mathlib.Numerals.{add-one}
 use native.Mathlib.Omega.{arith}
-use lib.ListN.{length, get_or, set, drop, length-set, drop_of_length-le}
-use lib.Seq.{sets, sets-eq, drop-cons}
+use lib.ListN.{length, get_or, set, take, drop, length-set, drop_of_length-le}
+use lib.Seq.{sets, sets-eq, take-length, drop-cons}
 use borrow.Author.Tests.{lt-ltb, le-ltb}
 use Rattle.decimals.specs.Text.{Text, text, put_byte, put}
 
@@ -40,6 +40,10 @@ put_next w i t h e = rw (e, add-one, drop-cons w i 0 h)
 pub put_end : (w : List ℕ) (i : ℕ) (t : Text) → length w ≤ i → put (drop i w) t ≡ t
 unfolding put
 put_end w i t h = rw (drop_of_length-le w h)
+
+-- a word from a byte on, as in the wrong program of must-fail/, whose proof stands on this: all of it where that is its first
+pub put_from : (w : List ℕ) (k : ℕ) (t : Text) → k ≡ 0 → put (take (length w - k) (drop k w)) t ≡ put w t
+put_from w k t z = let e : length w - 0 ≡ length w = omega arith in rw (z, e, take-length w)
 
 -- ---- where there is room
 pub put_fits : (xs l : List ℕ) (e : ℕ) → e + length xs ≤ length l → put xs (text l e) ≡ text (sets l e xs) (e + length xs)

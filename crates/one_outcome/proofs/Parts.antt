@@ -33,7 +33,6 @@ use Rattle.batch_chart.proofs.sweep_chart.Reads as sweep_chart
 use Rattle.c_records.proofs.fields.Reads as fields
 use Rattle.c_records.proofs.values.Reads as values
 use Rattle.c_records.proofs.swept_fields.Reads as swept_fields
-use Rattle.c_records.proofs.fault_number.Reads as fault_number
 use Rattle.c_records.proofs.checked_fields.Reads as checked_fields
 use Rattle.c_records.proofs.turn_number.Reads as turn_number
 use Rattle.c_records.proofs.region_number.Reads as region_number
@@ -124,9 +123,6 @@ values_once κ a x y s t h k = h ∙ sym k
 
 pub swept_fields_once : OneResult swept_fields.Post
 swept_fields_once κ a x y s t h k = h ∙ sym k
-
-pub fault_number_once : OneResult fault_number.Post
-fault_number_once κ a x y s t h k = h ∙ sym k
 
 pub checked_fields_once : OneResult checked_fields.Post
 checked_fields_once κ a x y s t h k = h ∙ sym k

@@ -8,14 +8,12 @@ use Prim.Native.Nat.{ℕ, ◌/◌, ◌<◌}
 use native.Mathlib.Nat.{eq-or-lt_of_le}
 use native.Mathlib.Omega.{arith}
 use borrow.Author.Tests.{ltb-true, ltb-false}
-use lib.Dec.{eqb, ltb}
+use lib.Dec.{ltb}
 use lib.IntN.{ℤ}
 use lib.ListN.{length}
 use Rattle.naive.specs.Demand.{Before}
 use Rattle.supplied.specs.declared.Checked.TheVariants.{Accepted, Fault, Missing}
-use Rattle.supplied.specs.declared.EntryFault.{EntryFault}
-use Rattle.supplied.specs.declared.EntryFault.TheVariants.{NoPiece, Itself, Apart, Repeated}
-use Rattle.supplied.specs.Entries.{one, other, named, number_of}
+use Rattle.supplied.specs.Entries.{one, other, named}
 use Rattle.supplied.specs.Demand.{Meets, Names, Named, AtFault, no_piece, itself, apart, repeated, Good, GoodBelow, Lacks, Due, fault, lacks, accepted, OneIsDue, NamesOnce, AcceptsExactly}
 use Rattle.supplied.proofs.Sides.{turned, named_yes, named_has}
 use Rattle.supplied.proofs.Promises.{says_what_is_due}
@@ -32,17 +30,6 @@ either a b = go (ltb a b) refl
     go : (t : Bool) → ltb a b ≡ t → Either a b
     go true e = less (ltb-true _ _ e)
     go false e = ⊎_elim (λ (q : b ≡ a). equal (sym q)) (λ (l : b < a). more l) (eq-or-lt_of_le {n = b} {m = a} (ltb-false _ _ e))
-
--- the fault of a number
-fault_numbered : ℕ → EntryFault
-fault_numbered k = cond (eqb k 1) NoPiece (cond (eqb k 2) Itself (cond (eqb k 3) Apart Repeated))
-
-numbered_back : (k : EntryFault) → fault_numbered (number_of k) ≡ k
-unfolding fault_numbered
-numbered_back NoPiece = refl
-numbered_back Itself = refl
-numbered_back Apart = refl
-numbered_back Repeated = refl
 
 module _ (list : List ℤ) (n : ℕ) (bytes : List ℕ) where
   -- ---- a good entry has no fault, and no entry has two
@@ -77,16 +64,13 @@ module _ (list : List ℤ) (n : ℕ) (bytes : List ℕ) where
   one_fault (repeated h k d m r) (apart h' k' d' m') = absurd (m' m)
   one_fault (repeated h k d m r) (repeated h' k' d' m' r') = refl
 
-  first_fault : {i j : ℕ} {k l : EntryFault} → GoodBelow list n bytes i → AtFault list n bytes i (number_of k) → GoodBelow list n bytes j → AtFault list n bytes j (number_of l)
-      → Fault i k ≡ Fault j l
-  first_fault {i} {j} {k} {l} g f g' f' = go (either i j)
+  first_fault : {i k j l : ℕ} → GoodBelow list n bytes i → AtFault list n bytes i k → GoodBelow list n bytes j → AtFault list n bytes j l → Fault i k ≡ Fault j l
+  first_fault {i} {k} {j} {l} g f g' f' = go (either i j)
     where
       go : Either i j → Fault i k ≡ Fault j l
       go (less h) = absurd (good_fault (g' i h) f)
       go (more h) = absurd (good_fault (g j h) f')
-      go (equal e) =
-          let q = one_fault f (subst (λ (m : ℕ). AtFault list n bytes m (number_of l)) (sym e) f') in
-          ap₂ Fault e (sym (numbered_back k) ∙ ap fault_numbered q ∙ numbered_back l)
+      go (equal e) = ap₂ Fault e (one_fault f (subst (λ (m : ℕ). AtFault list n bytes m l) (sym e) f'))
 
   first_lack : (a b c d : ℕ) → Lacks list n bytes a b → ((x y : ℕ) → Before (x, y) (a, b) → ¬ Lacks list n bytes x y)
       → Lacks list n bytes c d → ((x y : ℕ) → Before (x, y) (c, d) → ¬ Lacks list n bytes x y) → Missing a b ≡ Missing c d

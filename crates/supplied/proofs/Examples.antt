@@ -14,7 +14,6 @@ use Rattle.charts.specs.Piece.{kind_of, coordinate_of, piece_at}
 use Rattle.naive.specs.Pairs.{row, rows}
 use Rattle.naive.specs.AllPairs.{meets}
 use Rattle.supplied.specs.declared.Checked.TheVariants.{Accepted, Fault, Missing, Refused}
-use Rattle.supplied.specs.declared.EntryFault.TheVariants.{NoPiece, Itself, Apart, Repeated}
 use Rattle.supplied.specs.Entries.{greater, lesser, named, faults, missing}
 use Rattle.supplied.specs.Entries.{fault_of as entry_fault_of}
 use Rattle.supplied.specs.Entries.{fault_at as entry_fault_at}
@@ -29,11 +28,11 @@ pub record Examples : Type 0 where
   pub turned : checked_of gap (0 ∷ 2 ∷ 0 ∷ 1 ∷ []) ≡ Accepted
   pub none : checked_of gap [] ≡ Missing 1 0
   pub one_less : checked_of gap (0 ∷ 1 ∷ []) ≡ Missing 2 0
-  pub no_piece : checked_of gap (2 ∷ 0 ∷ 0 ∷ 3 ∷ []) ≡ Fault 1 NoPiece
-  pub no_piece_first : checked_of gap (9 ∷ 9 ∷ []) ≡ Fault 0 NoPiece
-  pub itself : checked_of gap (2 ∷ 2 ∷ 9 ∷ 9 ∷ []) ≡ Fault 0 Itself
-  pub apart : checked_of gap (1 ∷ 0 ∷ 2 ∷ 1 ∷ []) ≡ Fault 1 Apart
-  pub repeated : checked_of gap (1 ∷ 0 ∷ 2 ∷ 0 ∷ 0 ∷ 1 ∷ []) ≡ Fault 2 Repeated
+  pub no_piece : checked_of gap (2 ∷ 0 ∷ 0 ∷ 3 ∷ []) ≡ Fault 1 1
+  pub no_piece_first : checked_of gap (9 ∷ 9 ∷ []) ≡ Fault 0 1
+  pub itself : checked_of gap (2 ∷ 2 ∷ 9 ∷ 9 ∷ []) ≡ Fault 0 2
+  pub apart : checked_of gap (1 ∷ 0 ∷ 2 ∷ 1 ∷ []) ≡ Fault 1 3
+  pub repeated : checked_of gap (1 ∷ 0 ∷ 2 ∷ 0 ∷ 0 ∷ 1 ∷ []) ≡ Fault 2 4
   pub odd : checked_of gap (1 ∷ []) ≡ Refused 16 0
   pub no_list : checked_of (pos 3 ∷ []) (1 ∷ []) ≡ Refused 9 0
   pub no_pieces : checked_of [] [] ≡ Accepted

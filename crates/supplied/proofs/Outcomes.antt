@@ -19,7 +19,7 @@ use Rattle.std.specs.Prelude.{Option, None, Some}
 use Rattle.supplied.specs.declared.EntryFault.{EntryFault}
 use Rattle.supplied.specs.declared.EntryFault.TheVariants.{NoPiece, Itself, Apart, Repeated}
 use Rattle.supplied.specs.declared.Checked.TheVariants.{Fault, Refused}
-use Rattle.supplied.specs.Entries.{one, other, top, low, first_of, told_at, Faulty, named, fault_of, fault_at, faults, missing}
+use Rattle.supplied.specs.Entries.{one, other, top, low, first_of, told_at, Faulty, number_of, named, fault_of, fault_at, faults, missing}
 use Rattle.supplied.specs.Checking.{told, held_to, supplied_of, checked_of}
 use Rattle.supplied.specs.Marks.{Marked, Walked, unmarked}
 use Rattle.supplied.proofs.Entries.{in_order}
@@ -33,7 +33,7 @@ same_missing test n bytes marks h m =
     (λ a b g l. ap (λ (t : Bool). not t && test a b) (m.says a b l (omega arith)))
 
 module _ (test : ℕ → ℕ → Bool) (n : ℕ) (bytes : List ℕ) where
-  pub told_fault : (marks : List Bool) (i : ℕ) (k : EntryFault) (r : Option Faulty) → Walked test n bytes marks r → r ≡ Some (i, k) → Fault i k ≡ held_to test n bytes
+  pub told_fault : (marks : List Bool) (i : ℕ) (k : EntryFault) (r : Option Faulty) → Walked test n bytes marks r → r ≡ Some (i, k) → Fault i (number_of k) ≡ held_to test n bytes
   unfolding held_to
   told_fault marks i k r w e = rw (sym w.first ∙ e)
 

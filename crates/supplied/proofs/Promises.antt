@@ -201,7 +201,7 @@ module _ (list : List ℤ) (n : ℕ) (bytes : List ℕ) (sound : verdict_of list
   due = go (first_of (faults bytes (meets list) n (length bytes / 2))) (found bytes (meets list) n (length bytes / 2)) (first_of (rows test n)) (leads test n)
     where
       go : (f : Option Faulty) → Found bytes (meets list) n (length bytes / 2) f → (m : Option Pair) → Leads test n m → Due list n bytes (told f m)
-      go (Some (i, k)) F m L = fault i k F.below (λ j h. entry_good j (F.earlier j h)) (entry_fault i k F.here_fails)
+      go (Some (i, k)) F m L = fault i (number_of k) F.below (λ j h. entry_good j (F.earlier j h)) (entry_fault i k F.here_fails)
       go None F None L = accepted (λ j h. entry_good j (F j h)) (λ a b l. L (a, b) (lacks_in a b l))
       go None F (Some (a, b)) L = lacks a b (λ j h. entry_good j (F j h)) (in_lacks a b L.0) (λ c d h l. not_before a b c d h (L.1 (c, d) (lacks_in c d l)))
 

@@ -7,11 +7,11 @@ use Rattle.naive.specs.AllPairs.{meets}
 use Rattle.naive.specs.Pairs.{Pair}
 use Rattle.supplied.specs.declared.Checked.{Checked}
 use Rattle.supplied.specs.declared.Checked.TheVariants.{Accepted, Fault, Missing, Refused}
-use Rattle.supplied.specs.Entries.{Faulty, faults, missing, first_of}
+use Rattle.supplied.specs.Entries.{Faulty, number_of, faults, missing, first_of}
 
 -- "name the first entry at fault, .. or, when all entries are good, the first missing pair"
 abbrev pub told : Option Faulty → Option Pair → Checked
-told (Some (i, fault)) m = Fault i fault
+told (Some (i, fault)) m = Fault i (number_of fault)
 told None (Some (a, b)) = Missing a b
 told None None = Accepted
 

@@ -10,8 +10,7 @@ use Rattle.naive.specs.Demand.{Before, Pairwise}
 use Rattle.naive.specs.Pairs.{Pair, bytes}
 use Rattle.supplied.specs.declared.Checked.{Checked}
 use Rattle.supplied.specs.declared.Checked.TheVariants.{Accepted, Fault, Missing, Refused}
-use Rattle.supplied.specs.declared.EntryFault.{EntryFault}
-use Rattle.supplied.specs.Entries.{one, other, number_of}
+use Rattle.supplied.specs.Entries.{one, other}
 use Rattle.supplied.specs.Checking.{checked_of}
 
 -- ---- the entries, over the pieces of a list of which the first n are a chart
@@ -56,7 +55,7 @@ module _ (list : List ℤ) (n : ℕ) (bytes : List ℕ) where
   -- what is due to be said of the list
   pub data Due : Checked → Type 0 where
     -- "name the first entry at fault, entries counted from 0"
-    fault : (i : ℕ) (k : EntryFault) → i < length bytes / 2 → GoodBelow i → AtFault i (number_of k) → Due (Fault i k)
+    fault : (i k : ℕ) → i < length bytes / 2 → GoodBelow i → AtFault i k → Due (Fault i k)
     -- "or, when all entries are good, the first missing pair in all-pairs order"
     lacks : (a b : ℕ) → GoodBelow (length bytes / 2) → Lacks a b → ((c d : ℕ) → Before (c, d) (a, b) → ¬ Lacks c d) → Due (Missing a b)
     -- "accept exactly when it names each meeting pair of demand 2 once"

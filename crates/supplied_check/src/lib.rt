@@ -7,10 +7,23 @@ ghost use Rattle.charts.specs.Refusal.{told};
 ghost use Rattle.naive.specs.Decoded.{meets_in};
 ghost use Rattle.naive.specs.Sides.{Long};
 ghost use Rattle.supplied.specs.Checking.{held_to, supplied_of, checked_of};
+ghost use Rattle.supplied.specs.Entries.{number_of};
 
 use charts::{MOST, Reason, Refusal};
 use naive::Pieces;
-use supplied::Checked;
+use supplied::{Checked, EntryFault};
+
+// The number of a fault.
+pub fn fault_number(fault: EntryFault) -> usize
+    ensures { result ≡ number_of fault }
+{
+    match fault {
+        EntryFault::NoPiece => 1,
+        EntryFault::Itself => 2,
+        EntryFault::Apart => 3,
+        EntryFault::Repeated => 4,
+    }
+}
 
 // What is said of a list, by the pieces of an accepted chart.
 fn held_to(pieces: Pieces, n: usize, bytes: &[u8]) -> Checked
@@ -19,7 +32,7 @@ fn held_to(pieces: Pieces, n: usize, bytes: &[u8]) -> Checked
 {
     let mut marks = [false; MOST * MOST];
     match supplied_entries::mark_entries(pieces, n, bytes, &mut marks) {
-        Some((i, fault)) => Checked::Fault(i, fault),
+        Some((i, fault)) => Checked::Fault(i, fault_number(fault)),
         None => match supplied_missing::first_missing(pieces, n, &marks) {
             Some((a, b)) => Checked::Missing(a, b),
             None => Checked::Accepted,

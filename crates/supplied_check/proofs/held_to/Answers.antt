@@ -18,7 +18,7 @@ first_missing-requires c = (c.requires.0, c.requires.1, (c.mark_entries.ensures.
 
 pub returns-in-Some : goal.returns-in-Some
 returns-in-Some c =
-    told_fault (meets_in c.args.pieces.all) c.args.n c.args.bytes.now _ _ _ _ c.mark_entries.ensures c.in-Some.is
+    rw c.fault_number.ensures (told_fault (meets_in c.args.pieces.all) c.args.n c.args.bytes.now _ _ _ _ c.mark_entries.ensures c.in-Some.is)
 
 pub returns-in-Some-first_missing : goal.returns-in-Some-first_missing
 returns-in-Some-first_missing c =
